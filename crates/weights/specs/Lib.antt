@@ -1,0 +1,9 @@
+pub mod Semiring
+pub mod Capped
+pub mod Ranges
+pub mod Records
+pub mod Minutes
+pub mod Grade
+pub mod Possible
+pub mod Parts
+pub mod Count
