@@ -1,8 +1,8 @@
 -- What a file holds, once its first four questions are passed.
 use mathlib.Core.Path.{_≡_, refl, sym, ap, ap₂, subst, _∙_}
 use mathlib.Core.List.{List, [], _∷_, map}
-use mathlib.Core.Bool.{true, _&&_}
-use Prim.Native.Nat.{ℕ, zero, suc, _+_, _-_, _*_, _≤_}
+use mathlib.Core.Bool.{true, false, _&&_}
+use Prim.Native.Nat.{ℕ, zero, suc, _+_, _-_, _*_, _≤_, _<_}
 use native.Mathlib.Omega.{arith}
 use lib.Dec.{leb, eqb}
 use lib.ListN.{length, take, drop}
@@ -11,17 +11,18 @@ use Rattle.std.specs.declared.option.Option.{Option}
 use Rattle.std.specs.declared.option.Option.the-variants.{Some, None}
 use Rattle.std.specs.declared.result.Result.the-variants.{Ok, Err}
 use Rattle.std.proofs.shelf.Lists.{drop-drop, length-drop, length-map, length-take-le}
+use Rattle.std.proofs.shelf.Ways.{tells}
 use Rattle.std.proofs.shelf.Tests.{and-parts, and-from, le-leb, leb-true, eqb-true}
 use Rattle.charts.specs.Views.{View, view-of, row-of, within-limits, state-row-fits, arc-row-fits, all, fits}
 use Rattle.charts.specs.Format.{Framed, Found, header, file-view, total-fits, inside, tables-fit, first-failing, first-refusal, unrefused, decoded}
 use Rattle.charts.specs.declared.reading.header.Header.{Header}
 use Rattle.charts.specs.declared.refusals.Refusal.{Refusal}
-use Rattle.charts.specs.declared.refusals.Refusal.the-variants.{StateRow, ArcRow}
+use Rattle.charts.specs.declared.refusals.Refusal.the-variants.{Total, StateRow, ArcRow}
 use Rattle.charts.proofs.Failing.{all-pass}
 use Rattle.charts.proofs.Fitting.{limited}
 use Rattle.charts.proofs.Tabled.{tables-inside}
 
--- the first four questions are passed where the header that was read passes them
+-- the first four questions are passed where the header that was read passes its own
 pub framed : {bs : List ℕ} (h : Header) → 12 ≤ length bs → h ≡ header bs → total-fits h (length bs) ≡ true
     → within-limits (h .states) (h .letters) (h .arcs) ≡ true → tables-fit h ≡ true → Framed bs
 framed {bs} h long is total limits tables = record {
@@ -107,3 +108,9 @@ module _ {bs : List ℕ} {letters : ℕ} {marks : List ℕ} {rows : List (List �
         let states = all-pass state-row-fits StateRow 0 marks states-pass in
         let arcs = all-pass (arc-row-fits (length marks) letters) ArcRow 0 (map row-of rows) arcs-pass in
         and-from _ _ (and-from _ _ limits-are states) arcs
+
+-- a file that is too long is refused for its total, whatever it holds
+pub decoded-long : (bs : List ℕ) → 8192 < length bs → decoded bs ≡ Err Total
+decoded-long bs h =
+    let fails : total-fits (header bs) (length bs) ≡ false = grind (arith, tells) in
+    rw (le-leb 12 (length bs) (omega arith), fails)

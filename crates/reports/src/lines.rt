@@ -77,7 +77,10 @@ pub fn first_line(heap: Global, chart: &Chart) -> Result<String, AllocError>
     let states = chart.states();
     let letters = chart.letters();
     let arcs = chart.arcs();
-    format!(heap, "chart {states} states, {letters} letters, {arcs} arcs\n")
+    format!(
+        heap,
+        "chart {states} states, {letters} letters, {arcs} arcs\n"
+    )
 }
 
 // A state, and whether paths begin and end there.

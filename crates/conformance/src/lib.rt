@@ -1,0 +1,1 @@
+// Tables of cases: charts on both sides of every limit, the kinds at their edges, and what is printed.
