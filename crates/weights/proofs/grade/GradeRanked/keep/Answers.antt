@@ -1,9 +1,11 @@
+use native.Mathlib.Omega.{arith}
+use Rattle.weights.specs.Grade.{best-grade}
 use Rattle.weights.proofs.GradeLaws.{grade-ranked}
 use Rattle.weights.proofs.Meanings.{keeps-larger}
 use Rattle.weights.proofs.grade.GradeRanked.keep.Needs as need
 
 pub returns : need.returns
 returns c = record {
-  says = keeps-larger 100 (c .args .self .0) (c .args .other .0) (c .min .ensures) (c .min-2 .ensures);
+  says = keeps-larger best-grade (c .args .self .0) (c .args .other .0) (omega arith) (omega arith);
   laws-hold = grade-ranked;
 }
