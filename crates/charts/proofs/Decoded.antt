@@ -13,8 +13,10 @@ use Rattle.std.specs.declared.result.Result.the-variants.{Ok, Err}
 use Rattle.std.proofs.shelf.Lists.{drop-drop, length-drop, length-map, length-take-le}
 use Rattle.std.proofs.shelf.Ways.{tells}
 use Rattle.std.proofs.shelf.Tests.{and-parts, and-from, le-leb, leb-true, eqb-true}
-use Rattle.charts.specs.Views.{View, view-of, row-of, within-limits, state-row-fits, arc-row-fits, all, fits}
-use Rattle.charts.specs.Format.{Framed, Found, header, file-view, total-fits, inside, tables-fit, first-failing, first-refusal, unrefused, decoded}
+use Rattle.charts.specs.Views.{View, row-of, within-limits, state-row-fits, arc-row-fits}
+use Rattle.charts.specs.Held.{view-of, all, fits}
+use Rattle.charts.specs.Format.{header, file-view, total-fits, inside, tables-fit, first-failing, first-refusal, unrefused, decoded}
+use Rattle.charts.specs.Tabled.{Framed, Found}
 use Rattle.charts.specs.declared.reading.header.Header.{Header}
 use Rattle.charts.specs.declared.refusals.Refusal.{Refusal}
 use Rattle.charts.specs.declared.refusals.Refusal.the-variants.{Total, StateRow, ArcRow}

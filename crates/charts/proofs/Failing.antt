@@ -10,7 +10,7 @@ use Rattle.std.specs.declared.option.Option.{Option}
 use Rattle.std.specs.declared.option.Option.the-variants.{Some, None}
 use Rattle.std.proofs.shelf.Lists.{at-drop-more, at-drop-all}
 use Rattle.std.proofs.shelf.Tests.{cond-true, cond-false, and-parts}
-use Rattle.charts.specs.Views.{all}
+use Rattle.charts.specs.Held.{all}
 use Rattle.charts.specs.Format.{first-failing}
 use Rattle.charts.specs.declared.refusals.Refusal.{Refusal}
 

@@ -5,7 +5,8 @@ use Prim.Native.Nat.{ℕ, _≤_}
 use lib.Dec.{leb}
 use lib.ListN.{length}
 use Rattle.std.proofs.shelf.Tests.{and-parts, leb-true}
-use Rattle.charts.specs.Views.{View, within-limits, state-row-fits, arc-row-fits, all, fits}
+use Rattle.charts.specs.Views.{View, within-limits, state-row-fits, arc-row-fits}
+use Rattle.charts.specs.Held.{all, fits}
 
 -- the limits, one by one
 pub record Limited (states letters arcs : ℕ) : Type 0 where

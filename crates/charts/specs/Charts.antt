@@ -2,7 +2,8 @@
 use lib.ListN.{take}
 use Rattle.std.specs.declared.result.Result.{Result}
 use Rattle.std.specs.declared.result.Result.the-variants.{Ok, Err}
-use Rattle.charts.specs.Views.{View, view-of}
+use Rattle.charts.specs.Views.{View}
+use Rattle.charts.specs.Held.{view-of}
 use Rattle.charts.specs.declared.reading.Chart.{Chart}
 use Rattle.charts.specs.declared.refusals.Refusal.{Refusal}
 

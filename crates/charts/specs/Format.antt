@@ -1,8 +1,7 @@
 -- The format of a chart's file: what its bytes say, and which question refuses a file that is no chart.
-use mathlib.Core.Path.{_≡_}
 use mathlib.Core.List.{List, [], _∷_, map}
 use mathlib.Core.Bool.{Bool, true, false, cond, not, _&&_}
-use Prim.Native.Nat.{ℕ, zero, suc, _+_, _*_, _≤_}
+use Prim.Native.Nat.{ℕ, zero, suc, _+_, _*_}
 use lib.Dec.{eqb, ltb, leb}
 use lib.ListN.{length, take, drop}
 use Rattle.std.specs.Vectors.{chunked}
@@ -10,7 +9,7 @@ use Rattle.std.specs.declared.option.Option.{Option}
 use Rattle.std.specs.declared.option.Option.the-variants.{Some, None}
 use Rattle.std.specs.declared.result.Result.{Result}
 use Rattle.std.specs.declared.result.Result.the-variants.{Ok, Err}
-use Rattle.charts.specs.Views.{View, view-of, two, row-of, within-limits, state-row-fits, arc-row-fits}
+use Rattle.charts.specs.Views.{View, two, row-of, within-limits, state-row-fits, arc-row-fits}
 use Rattle.charts.specs.declared.reading.header.Header.{Header}
 use Rattle.charts.specs.declared.refusals.Refusal.{Refusal}
 use Rattle.charts.specs.declared.refusals.Refusal.the-variants.{ShortFile, Total, Limits, Tables, StateRow, ArcRow}
@@ -58,18 +57,6 @@ abbrev pub tables-fit : Header → Bool
 tables-fit h =
     inside (h .marks) (h .states) (h .total) && inside (h .rows) (12 * h .arcs) (h .total)
     && share-none (in-table (h .marks) (h .states)) (in-table (h .rows) (12 * h .arcs)) (h .total)
-
--- the file is long enough, and its total, its limits and its tables fit
-pub record Framed (bs : List ℕ) : Type 0 where
-  pub long : 12 ≤ length bs
-  pub total : total-fits (header bs) (length bs) ≡ true
-  pub limits : within-limits (header bs .states) (header bs .letters) (header bs .arcs) ≡ true
-  pub tables : tables-fit (header bs) ≡ true
-
--- so it is, and these are its letters and its tables
-pub record Found (bs : List ℕ) (letters : ℕ) (marks : List ℕ) (rows : List (List ℕ)) : Type 0 where
-  pub framed : Framed bs
-  pub same-view : view-of marks letters rows ≡ file-view bs
 
 -- a refusal where the answer is no
 abbrev pub unless : Bool → Refusal → Option Refusal

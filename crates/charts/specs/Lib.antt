@@ -1,7 +1,9 @@
 pub mod Refusals
 pub mod Views
+pub mod Held
 pub mod Arcs
 pub mod Format
+pub mod Tabled
 pub mod Charts
 pub mod Sums
 pub mod Automaton

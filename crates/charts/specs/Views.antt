@@ -1,10 +1,9 @@
 -- What a chart holds: its states, letters, state rows and arc rows.
-use mathlib.Core.Path.{_≡_}
-use mathlib.Core.List.{List, [], _∷_, map}
-use mathlib.Core.Bool.{Bool, true, false, _&&_}
-use Prim.Native.Nat.{ℕ, _+_, _*_, _/_, _%_, _≤_}
+use mathlib.Core.List.{List, []}
+use mathlib.Core.Bool.{Bool, _&&_}
+use Prim.Native.Nat.{ℕ, _+_, _*_, _/_, _%_}
 use lib.Dec.{eqb, ltb, leb}
-use lib.ListN.{length, getD, take}
+use lib.ListN.{getD}
 
 -- an arc row: the arc's states and letter, where 0 is silent, a byte that is left blank, and what it is weighed from
 pub record Row : Type 0 where
@@ -42,15 +41,6 @@ row-of bs = record {
   parts = four bs 8;
 }
 
--- the view of a chart with these state rows, letters and arc rows of twelve bytes each
-abbrev pub view-of : List ℕ → ℕ → List (List ℕ) → View
-view-of marks letters rows = record {
-  states = length marks;
-  letters = letters;
-  state-rows = marks;
-  arc-rows = map row-of rows;
-}
-
 -- a chart has 1 to 32 states, 1 to 15 letters and at most 512 arcs
 abbrev pub within-limits : (states letters arcs : ℕ) → Bool
 within-limits states letters arcs =
@@ -66,23 +56,6 @@ abbrev pub arc-row-fits : (states letters : ℕ) → Row → Bool
 arc-row-fits states letters r =
     ltb (r .from) states && ltb (r .to) states && leb (r .letter) letters && eqb (r .blank) 0
     && leb (r .minutes) 60000 && leb 1 (r .grade) && leb (r .grade) 100 && ltb (r .parts) 0x8000_0000
-
--- does every element pass the test?
-abbrev pub all : {X : Type 0} → (X → Bool) → List X → Bool
-all test [] = true
-all test (x ∷ xs) = test x && all test xs
-
--- the view keeps to the limits, and each of its rows fits
-abbrev pub fits : View → Bool
-fits v =
-    within-limits (v .states) (v .letters) (length (v .arc-rows)) && all state-row-fits (v .state-rows)
-    && all (arc-row-fits (v .states) (v .letters)) (v .arc-rows)
-
--- the first places of two tables, of 32 and of 512 places, hold the rows of a chart
-abbrev pub Held : (states letters arcs : ℕ) → List ℕ → List (List ℕ) → Type 0
-Held states letters arcs marks rows =
-    (states ≤ 32) × (length (take states marks) ≡ states) × (arcs ≤ 512) × (length (take arcs rows) ≡ arcs)
-    × (fits (view-of (take states marks) letters (take arcs rows)) ≡ true)
 
 -- the row of an arc; past the last arc a blank row, which no path has
 abbrev pub arc-row : View → ℕ → Row

@@ -2,7 +2,8 @@ use mathlib.Core.Path.{ap, ap₂, _∙_}
 use native.Mathlib.Omega.{arith}
 use lib.ListN.{length}
 use Rattle.std.proofs.shelf.Lists.{length-map}
-use Rattle.charts.specs.Views.{view-of, fits, row-of}
+use Rattle.charts.specs.Views.{row-of}
+use Rattle.charts.specs.Held.{view-of, fits}
 use Rattle.charts.proofs.Fitting.{fitted}
 use Rattle.charts.proofs.reading.tables.Tables.keep.Needs as need
 
