@@ -71,7 +71,7 @@ fn record_text(heap: Global, record: ArcRecord) -> Result<String, AllocError>
 }
 
 // How many states, letters and arcs there are.
-pub fn first_line(heap: Global, chart: &Chart) -> Result<String, AllocError>
+pub(crate) fn first_line(heap: Global, chart: &Chart) -> Result<String, AllocError>
     ensures { λ r. ⌜ made r (λ s. string-bytes s ≡ first-line (view (now (chart .entry)))) ⌝ }
 {
     let states = chart.states();
@@ -84,7 +84,7 @@ pub fn first_line(heap: Global, chart: &Chart) -> Result<String, AllocError>
 }
 
 // A state, and whether paths begin and end there.
-pub fn state_line(heap: Global, chart: &Chart, state: usize) -> Result<String, AllocError>
+pub(crate) fn state_line(heap: Global, chart: &Chart, state: usize) -> Result<String, AllocError>
     ensures { λ r. ⌜ made r (λ s. string-bytes s ≡ state-line (view (now (chart .entry))) state) ⌝ }
 {
     let start = if chart.is_start(state) { " start" } else { "" };
@@ -93,7 +93,7 @@ pub fn state_line(heap: Global, chart: &Chart, state: usize) -> Result<String, A
 }
 
 // An arc by its number.
-pub fn arc_line(heap: Global, number: usize, arc: Arc) -> Result<String, AllocError>
+pub(crate) fn arc_line(heap: Global, number: usize, arc: Arc) -> Result<String, AllocError>
     ensures { λ r. ⌜ made r (λ s. string-bytes s ≡ row-line number (row-of-arc arc)) ⌝ }
 {
     let from = arc.from;
