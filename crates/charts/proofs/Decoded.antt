@@ -1,21 +1,21 @@
 -- What a file holds, once its first four questions are passed.
 use mathlib.Core.Path.{_≡_, refl, sym, ap, ap₂, subst, _∙_}
 use mathlib.Core.List.{List, [], _∷_, map}
-use mathlib.Core.Bool.{true, false, _&&_}
-use Prim.Native.Nat.{ℕ, zero, suc, _+_, _-_, _*_, _≤_, _<_}
+use mathlib.Core.Bool.{true, false}
+use Prim.Native.Nat.{ℕ, zero, suc, _+_, _-_, _≤_, _<_}
 use native.Mathlib.Omega.{arith}
-use lib.Dec.{leb, eqb}
+use lib.Dec.{eqb}
 use lib.ListN.{length, take, drop}
 use Rattle.std.specs.Vectors.{chunked}
 use Rattle.std.specs.declared.option.Option.{Option}
 use Rattle.std.specs.declared.option.Option.the-variants.{Some, None}
-use Rattle.std.specs.declared.result.Result.the-variants.{Ok, Err}
+use Rattle.std.specs.declared.result.Result.the-variants.{Err}
 use Rattle.std.proofs.shelf.Lists.{drop-drop, length-drop, length-map, length-take-le}
 use Rattle.std.proofs.shelf.Ways.{tells}
-use Rattle.std.proofs.shelf.Tests.{and-parts, and-from, le-leb, leb-true, eqb-true}
+use Rattle.std.proofs.shelf.Tests.{and-parts, and-from, le-leb, eqb-true}
 use Rattle.charts.specs.Views.{View, row-of, within-limits, state-row-fits, arc-row-fits}
-use Rattle.charts.specs.Held.{view-of, all, fits}
-use Rattle.charts.specs.Format.{header, file-view, total-fits, inside, tables-fit, first-failing, first-refusal, unrefused, decoded}
+use Rattle.charts.specs.Held.{view-of, fits}
+use Rattle.charts.specs.Format.{header, file-view, total-fits, tables-fit, first-failing, first-refusal, unrefused, decoded}
 use Rattle.charts.specs.Tabled.{Framed, Found}
 use Rattle.charts.specs.declared.reading.header.Header.{Header}
 use Rattle.charts.specs.declared.refusals.Refusal.{Refusal}

@@ -3,7 +3,6 @@ use mathlib.Core.Bool.{Bool}
 use mathlib.Core.List.{List, [], map}
 use Prim.Native.Nat.{ℕ, _<_, _≤_}
 use lib.ListN.{length, getD}
-use Rattle.std.specs.Options.{isSome}
 use Rattle.std.proofs.shelf.Lists.{length-map, getD-map}
 use Rattle.charts.specs.Views.{row-of, arc-row-fits}
 use Rattle.charts.specs.declared.refusals.Refusal.the-variants.{ArcRow}
