@@ -20,10 +20,23 @@ pub struct Arc {
 pub(crate) fn read_arc(states: usize, letters: u8, row: &[u8; 12]) -> Option<Arc>
     ensures { λ r. ⌜ mapped row-of-arc r ≡ cond (arc-row-fits states letters (row-of (now (row .entry)))) (Some (row-of (now (row .entry)))) None ⌝ }
 {
-    let [from, to, letter, blank, m1, m0, g1, g0, p3, p2, p1, p0] = *row;
-    let minutes = u16::from_be_bytes([m1, m0]);
-    let grade = u16::from_be_bytes([g1, g0]);
-    let parts = u32::from_be_bytes([p3, p2, p1, p0]);
+    let [
+        from,
+        to,
+        letter,
+        blank,
+        minutes_high,
+        minutes_low,
+        grade_high,
+        grade_low,
+        parts_0,
+        parts_1,
+        parts_2,
+        parts_3,
+    ] = *row;
+    let minutes = u16::from_be_bytes([minutes_high, minutes_low]);
+    let grade = u16::from_be_bytes([grade_high, grade_low]);
+    let parts = u32::from_be_bytes([parts_0, parts_1, parts_2, parts_3]);
     let record = ArcRecord::new(minutes, grade, parts)?;
     let between_states = usize::from(from) < states && usize::from(to) < states;
     if between_states && letter <= letters && blank == 0 {

@@ -26,16 +26,31 @@ impl Header {
     pub(super) fn split(file: &[u8]) -> Result<(Header, &[u8]), Refusal>
         ensures { λ r. ⌜ Cases r (λ p. (12 ≤ length (now (file .entry))) × (p .0 ≡ header (now (file .entry))) × (now (p .1) ≡ drop 12 (now (file .entry)))) (λ e. (length (now (file .entry)) < 12) × (e ≡ ShortFile)) ⌝ }
     {
-        let [d1, d0, l1, l0, a1, a0, s1, s0, r1, r0, t1, t0, rest @ ..] = file else {
+        let [
+            states_high,
+            states_low,
+            letters_high,
+            letters_low,
+            arcs_high,
+            arcs_low,
+            marks_high,
+            marks_low,
+            rows_high,
+            rows_low,
+            total_high,
+            total_low,
+            rest @ ..,
+        ] = file
+        else {
             return Err(Refusal::ShortFile);
         };
         let header = Header {
-            states: u16::from_be_bytes([*d1, *d0]),
-            letters: u16::from_be_bytes([*l1, *l0]),
-            arcs: u16::from_be_bytes([*a1, *a0]),
-            marks: u16::from_be_bytes([*s1, *s0]),
-            rows: u16::from_be_bytes([*r1, *r0]),
-            total: u16::from_be_bytes([*t1, *t0]),
+            states: u16::from_be_bytes([*states_high, *states_low]),
+            letters: u16::from_be_bytes([*letters_high, *letters_low]),
+            arcs: u16::from_be_bytes([*arcs_high, *arcs_low]),
+            marks: u16::from_be_bytes([*marks_high, *marks_low]),
+            rows: u16::from_be_bytes([*rows_high, *rows_low]),
+            total: u16::from_be_bytes([*total_high, *total_low]),
         };
         Ok((header, rest))
     }
