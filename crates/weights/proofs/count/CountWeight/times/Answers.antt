@@ -5,4 +5,4 @@ use Rattle.weights.proofs.Meanings.{times_capped}
 use Rattle.weights.proofs.count.CountWeight.times.Goals as goal
 
 pub returns : goal.returns
-returns c = ap (capped most_counted) c.saturating-mul.ensures ∙ times_capped most_counted c.args.self.0 c.args.other.0
+returns c = ap (capped most_counted) c.saturating_mul.ensures ∙ times_capped most_counted c.args.self.0 c.args.other.0

@@ -3,4 +3,4 @@ use Rattle.weights.specs.GradeLaws.{grade_commutes}
 use Rattle.weights.proofs.grade.GradeCommutative.commutes.Goals as goal
 
 pub returns : goal.returns
-returns c = record { says = refl; law-holds = grade_commutes }
+returns c = record { says = refl; law_holds = grade_commutes }

@@ -7,5 +7,5 @@ use Rattle.weights.proofs.grade.GradeRanked.keep.Goals as goal
 pub returns : goal.returns
 returns c = record {
   says = keeps_larger best_grade c.args.self.0 c.args.other.0 (omega arith) (omega arith);
-  laws-hold = grade_ranked;
+  laws_hold = grade_ranked;
 }

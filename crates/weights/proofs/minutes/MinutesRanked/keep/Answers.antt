@@ -7,5 +7,5 @@ use Rattle.weights.proofs.minutes.MinutesRanked.keep.Goals as goal
 pub returns : goal.returns
 returns c = record {
   says = keeps_smaller most_minutes c.args.self.0 c.args.other.0 (omega arith) (omega arith);
-  laws-hold = minutes_ranked;
+  laws_hold = minutes_ranked;
 }
