@@ -1,4 +1,4 @@
 use Rattle.conformance.proofs.clearing.+list_paths.Given as goal
 
-abbrev pub decreases-list-paths : goal.decreases-list-paths
-decreases-list-paths g l = l.arcs
+abbrev pub decreases-list_paths : goal.decreases-list_paths
+decreases-list_paths g l = l.arcs

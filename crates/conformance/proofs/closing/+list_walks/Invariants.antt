@@ -1,4 +1,4 @@
 use Rattle.conformance.proofs.closing.+list_walks.Given as goal
 
-abbrev pub decreases-list-walks : goal.decreases-list-walks
-decreases-list-walks g l = l.steps
+abbrev pub decreases-list_walks : goal.decreases-list_walks
+decreases-list_walks g l = l.steps

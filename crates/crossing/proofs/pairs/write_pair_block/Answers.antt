@@ -21,13 +21,13 @@ loop-q-preserved g c =
     let q = c.loop-q.q in
     let d = m * n in
     let i = p * n + q in
-    let row = c.write-pairs.new.pairs in
+    let row = c.write_pairs.new.pairs in
     let fits : i * d + d ≤ length c.loop-q.block =
     row_fits d {m = d} (c.loop-q.auto.block ∙ c.loop-p.auto.block ∙ c.requires.fits) (digits_lt c.loop-p-test.true c.loop-q-test.true) in
-    let pairs = pair_row o meaning m n p q c.args.first.now c.args.second.now c.row-of-upper.result.now c.row-of-lower.result.now row
-    c.loop-q-test.true c.row-of-upper.ensures.value c.row-of-lower.ensures.value c.row-of-upper.ensures.len c.row-of-lower.ensures.len
-    c.write-pairs.ensures in
-    let long = c.write-pairs.auto.pairs ∙ length_part (i * d) d c.loop-q.block fits in
+    let pairs = pair_row o meaning m n p q c.args.first.now c.args.second.now c.row_of-upper.result.now c.row_of-lower.result.now row
+    c.loop-q-test.true c.row_of-upper.ensures.value c.row_of-lower.ensures.value c.row_of-upper.ensures.len c.row_of-lower.ensures.len
+    c.write_pairs.ensures in
+    let long = c.write_pairs.auto.pairs ∙ length_part (i * d) d c.loop-q.block fits in
     upto_at (add_assoc (p * n) q 1)
     (upto_put o meaning d i (i * d + d - i * d) c.loop-q.block row (add-sub_cancel_left (i * d) d) (omega arith) long pairs (λ r x u. tt) c.loop-q.invariant)
 
@@ -46,30 +46,30 @@ returns g c i k h l =
     let all : c.loop-p.p ≡ c.args.rows = omega arith in
     c.loop-p.invariant.before i (rw all h) k l
 
-pub row-of-upper-requires : goal.row-of-upper-requires
-row-of-upper-requires g c = row_fits c.args.rows c.requires.given.0 c.loop-p-test.true
+pub row_of-upper-requires : goal.row_of-upper-requires
+row_of-upper-requires g c = row_fits c.args.rows c.requires.given.0 c.loop-p-test.true
 
-pub row-of-lower-requires : goal.row-of-lower-requires
-row-of-lower-requires g c = row_fits c.args.columns c.requires.given.1 c.loop-q-test.true
+pub row_of-lower-requires : goal.row_of-lower-requires
+row_of-lower-requires g c = row_fits c.args.columns c.requires.given.1 c.loop-q-test.true
 
-pub write-pairs-requires : goal.write-pairs-requires
-write-pairs-requires g c =
+pub write_pairs-requires : goal.write_pairs-requires
+write_pairs-requires g c =
     let d = c.args.rows * c.args.columns in
     let i = c.loop-p.p * c.args.columns + c.loop-q.q in
     let fits : i * d + d ≤ length c.loop-q.block =
     row_fits d {m = d} (c.loop-q.auto.block ∙ c.loop-p.auto.block ∙ c.requires.fits) (digits_lt c.loop-p-test.true c.loop-q-test.true) in
-    length_part (i * d) d c.loop-q.block fits ∙ sym (ap₂ ◌*◌ c.row-of-upper.ensures.len c.row-of-lower.ensures.len)
+    length_part (i * d) d c.loop-q.block fits ∙ sym (ap₂ ◌*◌ c.row_of-upper.ensures.len c.row_of-lower.ensures.len)
 
-pub offset-bounds-block-begin : goal.offset-bounds-block-begin
-offset-bounds-block-begin g c =
+pub offset_bounds-block-begin : goal.offset_bounds-block-begin
+offset_bounds-block-begin g c =
     let d = c.args.rows * c.args.columns in
     let i = c.loop-p.p * c.args.columns + c.loop-q.q in
     let fits : i * d + d ≤ length c.loop-q.block =
     row_fits d {m = d} (c.loop-q.auto.block ∙ c.loop-p.auto.block ∙ c.requires.fits) (digits_lt c.loop-p-test.true c.loop-q-test.true) in
     search rules
 
-pub slice-bounds-write-pairs-end : goal.slice-bounds-write-pairs-end
-slice-bounds-write-pairs-end g c =
+pub slice_bounds-write_pairs-end : goal.slice_bounds-write_pairs-end
+slice_bounds-write_pairs-end g c =
     let d = c.args.rows * c.args.columns in
     let i = c.loop-p.p * c.args.columns + c.loop-q.q in
     let fits : i * d + d ≤ length c.loop-q.block =

@@ -22,33 +22,33 @@ returns g c =
     let square : s * s ≡ d * d = ap₂ ◌*◌ states states in
     let letters = c.from.ensures ∙ c.letters.ensures in
     let size : 2 * s + c.from.result * (s * s) ≡ machine_size d v.letters = ap₂ ◌+◌ (ap (◌*◌ 2) states) (ap₂ ◌*◌ letters square) in
-    let written = c.clear-into.new.table in
+    let written = c.clear_into.new.table in
     let whole : length written ≡ 2 * s + c.from.result * (s * s) = search rules in
     record {
       answers = grind (arith, nat_tests);
       clears = λ _. cleared_front g.K.Weight.meaning laws (automaton g.K.Weight.weighs v) (sound g.K.Weight.weighs c.args.chart.now) written
-          (drop (2 * s + c.from.result * (s * s)) c.args.table.now) (whole ∙ size) c.clear-into.ensures;
-      silent-kept = drop-append-drop (s * s) c.args.silent.now c.clear-into.new.silent (d * d) (omega arith) (search rules);
-      scratch-kept = drop-append-drop s c.args.scratch.now c.clear-into.new.kept (d * d) (omega arith) (search rules);
+          (drop (2 * s + c.from.result * (s * s)) c.args.table.now) (whole ∙ size) c.clear_into.ensures;
+      silent_kept = drop-append-drop (s * s) c.args.silent.now c.clear_into.new.silent (d * d) (omega arith) (search rules);
+      scratch_kept = drop-append-drop s c.args.scratch.now c.clear_into.new.kept (d * d) (omega arith) (search rules);
       table_kept = drop-append-drop (2 * s + c.from.result * (s * s)) c.args.table.now written (machine_size d v.letters) (omega arith) whole;
     }
 
-pub slice-bounds-clear-into-end-3 : goal.slice-bounds-clear-into-end-3
-slice-bounds-clear-into-end-3 g c =
+pub slice_bounds-clear_into-end-3 : goal.slice_bounds-clear_into-end-3
+slice_bounds-clear_into-end-3 g c =
     let limits = (fitted (view c.args.chart.now) c.args.chart.now.held.4).limits in
     let some = limits.some_states in
     let row = row_within c.states-states.result (omega arith) in
     omega arith
 
-pub slice-bounds-clear-into-end-4 : goal.slice-bounds-clear-into-end-4
-slice-bounds-clear-into-end-4 g c =
+pub slice_bounds-clear_into-end-4 : goal.slice_bounds-clear_into-end-4
+slice_bounds-clear_into-end-4 g c =
     let limits = (fitted (view c.args.chart.now) c.args.chart.now.held.4).limits in
     let some = limits.some_states in
     let row = row_within c.states-states.result (omega arith) in
     sym (length-take-le c.states-states.result c.args.scratch.now (omega arith))
 
-pub clear-into-requires : goal.clear-into-requires
-clear-into-requires g c =
+pub clear_into-requires : goal.clear_into-requires
+clear_into-requires g c =
     let limits = (fitted (view c.args.chart.now) c.args.chart.now.held.4).limits in
     let some = limits.some_states in
     let s = c.states-states.result in

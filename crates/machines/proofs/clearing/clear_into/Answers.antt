@@ -17,21 +17,21 @@ returns g c =
     let d = v.states in
     let states = c.states-states.ensures in
     let a = automaton g.K.Weight.weighs v in
-    let silent = c.write-silent.new.table in
+    let silent = c.write_silent.new.table in
     let shut = c.close.new.table in
-    let xs = c.write-starts.new.row in
-    let ys = c.write-ends.new.row in
-    let zs = c.write-blocks.new.blocks in
+    let xs = c.write_starts.new.row in
+    let ys = c.write_ends.new.row in
+    let zs = c.write_blocks.new.blocks in
     let table = c.args.table.now in
     let starts_long : length xs ≡ d = search rules in
     let ends_long : length ys ≡ d = search rules in
     let blocks_long : length zs ≡ v.letters * (d * d) = search rules in
     let parts = laid o meaning d v.letters table xs ys zs starts_long ends_long blocks_long c.requires.fits (2 * d - d) (length table - 2 * d) (omega arith) (omega arith) in
-    let first = sym c.write-starts.auto.row ∙ starts_long in
-    let second = sym c.write-ends.auto.row ∙ ends_long in
-    let closes = closed_from o meaning c.states-states.result d states (arc_table o a 0) silent shut c.write-silent.ensures c.close.ensures in
-    let written = laid_alike (cleared_by o a (table_of o meaning d shut)) parts refl (rw first at c.write-starts.ensures) (rw second at c.write-ends.ensures)
-    (λ a i k b u h l. c.write-blocks.ensures a i k b h l) in
+    let first = sym c.write_starts.auto.row ∙ starts_long in
+    let second = sym c.write_ends.auto.row ∙ ends_long in
+    let closes = closed_from o meaning c.states-states.result d states (arc_table o a 0) silent shut c.write_silent.ensures c.close.ensures in
+    let written = laid_alike (cleared_by o a (table_of o meaning d shut)) parts refl (rw first at c.write_starts.ensures) (rw second at c.write_ends.ensures)
+    (λ a i k b u h l. c.write_blocks.ensures a i k b h l) in
     rw states (alike_trans refl written (cleared_cong plain a closes))
 
 pub close-requires : goal.close-requires
@@ -39,4 +39,4 @@ close-requires g c =
     let limits = (fitted (view c.args.chart.now) c.args.chart.now.held.4).limits in
     let few = limits.few_states in
     let states = c.states-states.ensures in
-    record { within = omega arith; fits = (rw states (c.write-silent.auto.table ∙ c.requires.closes.0), c.requires.closes.1 ∙ sym states) }
+    record { within = omega arith; fits = (rw states (c.write_silent.auto.table ∙ c.requires.closes.0), c.requires.closes.1 ∙ sym states) }

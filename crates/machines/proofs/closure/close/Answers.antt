@@ -10,11 +10,11 @@ pub loop-pivot-preserved : goal.loop-pivot-preserved
 loop-pivot-preserved g c i k h l =
     let o = g.K.Weight.ops in
     rw (add-one c.loop-pivot.pivot)
-    (c.close-round.ensures i k h l ∙ round_cong o c.args.states c.loop-pivot.pivot c.loop-pivot-test.true c.loop-pivot.invariant i k h l)
+    (c.close_round.ensures i k h l ∙ round_cong o c.args.states c.loop-pivot.pivot c.loop-pivot-test.true c.loop-pivot.invariant i k h l)
 
 pub returns : goal.returns
 returns g c i k h l =
     let o = g.K.Weight.ops in
     let all : c.loop-pivot.pivot ≡ c.args.states = omega arith in
     let inv = rw all at (c.loop-pivot.invariant i k h l) in
-    c.join-one.ensures i k h l ∙ ap (λ x. o.plus x (diagonal o i k)) inv
+    c.join_one.ensures i k h l ∙ ap (λ x. o.plus x (diagonal o i k)) inv

@@ -5,11 +5,11 @@ use Rattle.machines.proofs.Places.{row_within}
 use Rattle.machines.proofs.Rounds.{front_closed}
 use Rattle.machines.proofs.closure.close_table.Goals as goal
 
-pub slice-bounds-close-end-3 : goal.slice-bounds-close-end-3
-slice-bounds-close-end-3 g c = let h = row_within c.args.states c.if-states-lt1.false in search rules
+pub slice_bounds-close-end-3 : goal.slice_bounds-close-end-3
+slice_bounds-close-end-3 g c = let h = row_within c.args.states c.if-states-lt1.false in search rules
 
-pub slice-bounds-close-end-4 : goal.slice-bounds-close-end-4
-slice-bounds-close-end-4 g c = let h = row_within c.args.states c.if-states-lt1.false in search rules
+pub slice_bounds-close-end-4 : goal.slice_bounds-close-end-4
+slice_bounds-close-end-4 g c = let h = row_within c.args.states c.if-states-lt1.false in search rules
 
 pub close-requires : goal.close-requires
 close-requires g c = let h = row_within c.args.states c.if-states-lt1.false in search rules
@@ -22,5 +22,5 @@ returns g c =
       answers = grind (arith, nat_tests);
       closes = λ _. front_closed g.K.Weight.meaning g.met.K.Weight.laws d c.args.table.now c.close.new.table (search rules) c.close.ensures;
       table_kept = drop-append-drop (d * d) c.args.table.now c.close.new.table (d * d) (omega arith) (search rules);
-      scratch-kept = drop-append-drop d c.args.scratch.now c.close.new.kept (d * d) h (search rules);
+      scratch_kept = drop-append-drop d c.args.scratch.now c.close.new.kept (d * d) h (search rules);
     }

@@ -16,10 +16,10 @@ loop-i-preserved g c =
     let plain = g.met.K.Weight.laws.plain in
     let i = c.loop-i.i in
     let one = c.one.ensures ∙ sym (cond-true _ _ o.nil (eq-eqb i i refl)) in
-    upto_join o g.K.Weight.meaning c.args.states i i c.loop-i.table c.join-at.new.row c.loop-i-test.true c.join-at.ensures
+    upto_join o g.K.Weight.meaning c.args.states i i c.loop-i.table c.join_at.new.row c.loop-i-test.true c.join_at.ensures
     (ap (o.plus _) one) (λ q y. sym (ap (o.plus _) (cond-false _ o.unit _ (ne_eqb i q (λ e. y (sym e)))) ∙ plus_nil plain _)) c.loop-i.invariant
 
-pub join-at-requires : goal.join-at-requires
-join-at-requires g c =
+pub join_at-requires : goal.join_at-requires
+join_at-requires g c =
     let h = row_fits c.args.states (c.loop-i.auto.table ∙ c.requires.1) c.loop-i-test.true in
     omega arith

@@ -7,5 +7,5 @@ pub returns : goal.returns
 returns c =
     let minutes = c.minutes-minutes.ensures in
     let grade = c.grade-grade.ensures in
-    let parts = c.in-ok-parts.ensures ∙ ap (hex_digits 8) c.parts.ensures in
+    let parts = c.in_ok-parts.ensures ∙ ap (hex_digits 8) c.parts.ensures in
     IfOk-weaker c.format.result _ _ (λ s e. e ∙ rw (minutes, grade, parts)) c.format.ensures.ok

@@ -8,7 +8,7 @@ returns c =
     let v = view c.args.chart.now in
     let states = lines (state_line v) v.states in
     let arcs = lines (arc_line v) (length v.arc_rows) in
-    let first = c.in-ok-text.ensures in
-    c.in-ok-push-arcs.ensures
-    ∙ ap (λ t. t ++ arcs) (c.in-ok-push-states.ensures ∙ ap (λ t. t ++ states) first)
+    let first = c.in_ok-text.ensures in
+    c.in_ok-push_arcs.ensures
+    ∙ ap (λ t. t ++ arcs) (c.in_ok-push_states.ensures ∙ ap (λ t. t ++ states) first)
     ∙ append_assoc (first_line v) states arcs

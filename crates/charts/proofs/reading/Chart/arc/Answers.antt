@@ -21,7 +21,7 @@ returns-then-number-self c =
     let passes = all_at _ (map row_of rows) number (row_of []) within (fitted (view self) self.held.4).arc_rows in
     let fit : arc_row_fits self.states self.letters (row_of (get_or self.rows number [])) ≡ true =
     sym (ap₂ (λ d r. arc_row_fits d self.letters r) self.held.1 here) ∙ passes in
-    c.read-arc.ensures ∙ cond-true _ _ _ fit ∙ ap Some (sym here) ∙ sym (slice_get-get_or (map row_of rows) number (row_of []) within)
+    c.read_arc.ensures ∙ cond-true _ _ _ fit ∙ ap Some (sym here) ∙ sym (slice_get-get_or (map row_of rows) number (row_of []) within)
 
 pub returns-else-number-self : goal.returns-else-number-self
 returns-else-number-self c =

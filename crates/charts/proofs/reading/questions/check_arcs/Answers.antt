@@ -17,16 +17,16 @@ tested states letters rows i b h e = ap (arc_row_fits states letters) (get_or-ma
 pub loop-arc-init : goal.loop-arc-init
 loop-arc-init c = refl
 
-pub returns-then-is-none : goal.returns-then-is-none
-returns-then-is-none c =
+pub returns-then-is_none : goal.returns-then-is_none
+returns-then-is_none c =
     let h = c.loop-arc-test.true in
-    let fails = tested _ _ _ _ _ h (sym c.if-is-none.ensures ∙ some_is _ _ _ _ c.read-arc.ensures) in
+    let fails = tested _ _ _ _ _ h (sym c.if-is_none.ensures ∙ some_is _ _ _ _ c.read_arc.ensures) in
     sym (failing_found _ ArcRow _ _ _ (within _ _ h) fails) ∙ c.loop-arc.invariant
 
 pub loop-arc-preserved : goal.loop-arc-preserved
 loop-arc-preserved c =
     let h = c.loop-arc-test.true in
-    let passes = tested _ _ _ _ _ h (sym c.if-is-none.ensures ∙ some_is _ _ _ _ c.read-arc.ensures) in
+    let passes = tested _ _ _ _ _ h (sym c.if-is_none.ensures ∙ some_is _ _ _ _ c.read_arc.ensures) in
     sym (failing_passed _ ArcRow _ _ _ (within _ _ h) passes) ∙ c.loop-arc.invariant
 
 pub returns : goal.returns

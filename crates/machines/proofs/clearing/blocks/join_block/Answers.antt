@@ -17,9 +17,9 @@ returns-then-spoken g c =
     let room = block_fits (d * d) a a (omega arith) (le_refl a) in
     let fits : a * (d * d) ≤ length c.args.blocks.now = rw c.from.ensures c.requires.fits.1 in
     arc_joined_behind meaning g.met.K.Weight.laws.plain g.K.Weight.weighs (table_of o meaning d c.args.closed.now) (row_of_arc c.args.arc) d a
-    c.from-then-spoken.result c.from-then-spoken-2.result (begin + d * d - begin) (meaning c.of-arc-weight.result) c.args.blocks.now c.join-column.new.block
-    c.from.ensures c.from-then-spoken.ensures c.from-then-spoken-2.ensures c.of-arc-weight.ensures (omega arith) (add-sub_cancel_left begin (d * d))
-    fits (c.join-column.auto.block ∙ length_part begin (d * d) c.args.blocks.now (omega arith)) c.join-column.ensures
+    c.from-then-spoken.result c.from-then-spoken-2.result (begin + d * d - begin) (meaning c.of_arc-weight.result) c.args.blocks.now c.join_column.new.block
+    c.from.ensures c.from-then-spoken.ensures c.from-then-spoken-2.ensures c.of_arc-weight.ensures (omega arith) (add-sub_cancel_left begin (d * d))
+    fits (c.join_column.auto.block ∙ length_part begin (d * d) c.args.blocks.now (omega arith)) c.join_column.ensures
 
 pub returns-else-spoken : goal.returns-else-spoken
 returns-else-spoken g c a i k b h l =

@@ -12,8 +12,8 @@ use Rattle.machines.proofs.Behind.{arcs_behind}
 use Rattle.machines.proofs.clearing.blocks.write_blocks.Goals as goal
 use Rattle.machines.proofs.clearing.blocks.write_blocks.Goals.{in-Some, in-default}
 
-pub join-block-requires : goal.join-block-requires
-join-block-requires g c =
+pub join_block-requires : goal.join_block-requires
+join_block-requires g c =
     let v = view c.args.chart.now in
     let n = c.loop-number.number in
     let within : n < length v.arc_rows = omega arith in
@@ -26,7 +26,7 @@ join-block-requires g c =
     let to = between.to_below in
     let letter = between.letter_within in
     let size = v.states * v.states in
-    let long = c.loop-number.auto.blocks ∙ c.fill-zero.auto.row ∙ c.requires.fits in
+    let long = c.loop-number.auto.blocks ∙ c.fill_zero.auto.row ∙ c.requires.fits in
     let room : c.in-Some.arc.letter * size ≤ v.letters * size = mul-le-mul_right size letter in
     record {
       within = (omega arith, (omega arith, (omega arith, omega arith)));
@@ -34,7 +34,7 @@ join-block-requires g c =
     }
 
 pub loop-number-init : goal.loop-number-init
-loop-number-init g c a i k b h l = c.fill-zero.ensures _
+loop-number-init g c a i k b h l = c.fill_zero.ensures _
 
 pub loop-number-preserved : goal.loop-number-preserved
 loop-number-preserved g c =
@@ -53,7 +53,7 @@ loop-number-preserved g c =
           blocks_more meaning g.met.K.Weight.laws.plain v.states m n c.loop-number.blocks c.match-arc.blocks
           (λ e. arc_adds_behind o weighs (closed v.states) (arc_row v e)) (arc_adds_behind o weighs (closed m) arc) c.states-states.ensures
           (λ a i k. ap₂ (λ d r. arc_adds_behind o weighs (closed d) r a i k) c.states-states.ensures row) c.loop-number.invariant
-          (λ a i k b h l. ap (λ t. block_entry o meaning m t a i k) w.blocks-is ∙ w.join-block.ensures a i k b h l)
+          (λ a i k b h l. ap (λ t. block_entry o meaning m t a i k) w.blocks-is ∙ w.join_block.ensures a i k b h l)
       | in-default w ↦ absurd (arc_found v n within w.in-default.ensures)
     ]
 

@@ -17,9 +17,9 @@ loop-i-preserved g c =
     let meaning = g.K.Weight.meaning in
     let d = length c.args.row.now in
     let i = c.loop-i.i in
-    let joined = row_sum meaning g.met.K.Weight.laws.plain d i (ends (view c.args.chart.now)) c.args.closed.now c.row-of.result.now
-    c.row-of.ensures.value c.row-of.ensures.len c.end-weight.ensures in
-    upto_set o meaning c.loop-i.row i c.end-weight.result (omega arith) joined c.loop-i.invariant
+    let joined = row_sum meaning g.met.K.Weight.laws.plain d i (ends (view c.args.chart.now)) c.args.closed.now c.row_of.result.now
+    c.row_of.ensures.value c.row_of.ensures.len c.end_weight.ensures in
+    upto_set o meaning c.loop-i.row i c.end_weight.result (omega arith) joined c.loop-i.invariant
 
-pub row-of-requires : goal.row-of-requires
-row-of-requires g c = row_fits (length c.args.row.now) c.requires.1 c.loop-i-test.true
+pub row_of-requires : goal.row_of-requires
+row_of-requires g c = row_fits (length c.args.row.now) c.requires.1 c.loop-i-test.true

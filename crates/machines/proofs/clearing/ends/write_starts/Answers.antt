@@ -10,5 +10,5 @@ loop-i-init g c = upto_none (λ i. refl)
 
 pub loop-i-preserved : goal.loop-i-preserved
 loop-i-preserved g c =
-    upto_set g.K.Weight.ops g.K.Weight.meaning c.loop-i.row c.loop-i.i c.start-weight.result (omega arith)
-    c.start-weight.ensures c.loop-i.invariant
+    upto_set g.K.Weight.ops g.K.Weight.meaning c.loop-i.row c.loop-i.i c.start_weight.result (omega arith)
+    c.start_weight.ensures c.loop-i.invariant

@@ -5,14 +5,14 @@ use Rattle.charts.specs.Arcs.{row_of_arc}
 use Rattle.machines.proofs.Added.{arc_joined, adds_nothing}
 use Rattle.machines.proofs.clearing.silent.join_silent.Goals as goal
 
-pub join-at-requires : goal.join-at-requires
-join-at-requires g c = let h = digits_lt c.requires.within.1.0 c.requires.within.1.1 in search rules
+pub join_at-requires : goal.join_at-requires
+join_at-requires g c = let h = digits_lt c.requires.within.1.0 c.requires.within.1.1 in search rules
 
 pub returns-then-silent : goal.returns-then-silent
 returns-then-silent g c =
     arc_joined g.K.Weight.meaning g.met.K.Weight.laws.plain g.K.Weight.weighs (row_of_arc c.args.arc) 0 c.args.states c.from.result
-    c.from-then-silent.result c.args.table.now c.join-at.new.row c.from.ensures c.from-then-silent.ensures c.if-silent.true
-    c.of-arc.ensures (search rules) c.join-at.ensures
+    c.from-then-silent.result c.args.table.now c.join_at.new.row c.from.ensures c.from-then-silent.ensures c.if-silent.true
+    c.of_arc.ensures (search rules) c.join_at.ensures
 
 pub returns-else-silent : goal.returns-else-silent
 returns-else-silent g c i k h l =

@@ -10,8 +10,8 @@ use Rattle.machines.proofs.Added.{entries_more}
 use Rattle.machines.proofs.clearing.silent.write_silent.Goals as goal
 use Rattle.machines.proofs.clearing.silent.write_silent.Goals.{in-Some, in-default}
 
-pub join-silent-requires : goal.join-silent-requires
-join-silent-requires g c =
+pub join_silent-requires : goal.join_silent-requires
+join_silent-requires g c =
     let v = view c.args.chart.now in
     let n = c.loop-number.number in
     let within : n < length v.arc_rows = omega arith in
@@ -21,7 +21,7 @@ join-silent-requires g c =
     let from = between.from_below in
     let to = between.to_below in
     let states = c.states-states.ensures in
-    record { within = (omega arith, (omega arith, omega arith)); fits = rw states (c.loop-number.auto.table ∙ c.fill-zero.auto.row ∙ c.requires) }
+    record { within = (omega arith, (omega arith, omega arith)); fits = rw states (c.loop-number.auto.table ∙ c.fill_zero.auto.row ∙ c.requires) }
 
 pub loop-number-preserved : goal.loop-number-preserved
 loop-number-preserved g c =
@@ -36,6 +36,6 @@ loop-number-preserved g c =
           entries_more g.K.Weight.meaning g.met.K.Weight.laws.plain v.states c.states-states.result n c.loop-number.table c.match-arc.table
           (λ e. arc_adds o weighs (arc_row v e) 0) (arc_adds o weighs (row_of_arc w.in-Some.arc) 0) c.states-states.ensures
           (λ i k. ap (λ r. arc_adds o weighs r 0 i k) row) c.loop-number.invariant
-          (λ i k h l. ap (λ t. table_of o g.K.Weight.meaning c.states-states.result t i k) w.table-is ∙ w.join-silent.ensures i k h l)
+          (λ i k h l. ap (λ t. table_of o g.K.Weight.meaning c.states-states.result t i k) w.table-is ∙ w.join_silent.ensures i k h l)
       | in-default w ↦ absurd (arc_found v n within w.in-default.ensures)
     ]

@@ -9,6 +9,6 @@ returns c =
     let placed = tables_inside self c.requires.tables in
     record {
       marks = part_is rest (c.from-marks.result - 12) _ (self.marks - 12) _ (omega arith) c.from-2.ensures;
-      rows = c.as-chunks.ensures.front
+      rows = c.as_chunks.ensures.front
           ∙ chunked_part rest (c.from-rows.result - 12) (12 * c.from.result) (self.rows - 12) self.arcs (omega arith) (omega arith) (omega arith);
     }
