@@ -6,7 +6,7 @@ use Rattle.charts.specs.Views.{row_of, arc_row}
 use Rattle.reports.specs.Texts.{arc_line, row_line}
 use Rattle.reports.proofs.Lined.{lines_more}
 use Rattle.reports.proofs.tables.push_arcs.Goals as goal
-use Rattle.reports.proofs.tables.push_arcs.Goals.{in-Some+in_ok-line+in_ok-push_str, in-default}
+use Rattle.reports.proofs.tables.push_arcs.Goals.{in-Some+in_ok-line+in_ok-push_str, in_default}
 
 -- the arc of a number below the number of arcs is there
 pub loop-number-preserved : goal.loop-number-preserved
@@ -20,5 +20,5 @@ loop-number-preserved c =
           ap string_bytes w.text-is ∙ w.in_ok-push_str.ensures.bytes
           ∙ ap₂ ◌++◌ c.loop-number.invariant (w.as_str.ensures.value ∙ w.in_ok-line.ensures ∙ ap (row_line number) row)
           ∙ lines_more (arc_line v) number (string_bytes c.args.text.now)
-      | in-default w ↦ absurd (false≢true (ap is_some (w.in-default.ensures ∙ there)))
+      | in_default w ↦ absurd (false≢true (ap is_some (w.in_default.ensures ∙ there)))
     ]

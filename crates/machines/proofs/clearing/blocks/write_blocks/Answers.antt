@@ -10,7 +10,7 @@ use Rattle.machines.specs.Tables.{table_of}
 use Rattle.machines.proofs.Added.{blocks_more}
 use Rattle.machines.proofs.Behind.{arcs_behind}
 use Rattle.machines.proofs.clearing.blocks.write_blocks.Goals as goal
-use Rattle.machines.proofs.clearing.blocks.write_blocks.Goals.{in-Some, in-default}
+use Rattle.machines.proofs.clearing.blocks.write_blocks.Goals.{in-Some, in_default}
 
 pub join_block-requires : goal.join_block-requires
 join_block-requires g c =
@@ -54,7 +54,7 @@ loop-number-preserved g c =
           (λ e. arc_adds_behind o weighs (closed v.states) (arc_row v e)) (arc_adds_behind o weighs (closed m) arc) c.states-states.ensures
           (λ a i k. ap₂ (λ d r. arc_adds_behind o weighs (closed d) r a i k) c.states-states.ensures row) c.loop-number.invariant
           (λ a i k b h l. ap (λ t. block_entry o meaning m t a i k) w.blocks-is ∙ w.join_block.ensures a i k b h l)
-      | in-default w ↦ absurd (arc_found v n within w.in-default.ensures)
+      | in_default w ↦ absurd (arc_found v n within w.in_default.ensures)
     ]
 
 pub returns : goal.returns

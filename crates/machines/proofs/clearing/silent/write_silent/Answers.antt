@@ -8,7 +8,7 @@ use Rattle.machines.specs.Arcs.{arc_adds}
 use Rattle.machines.specs.Tables.{table_of}
 use Rattle.machines.proofs.Added.{entries_more}
 use Rattle.machines.proofs.clearing.silent.write_silent.Goals as goal
-use Rattle.machines.proofs.clearing.silent.write_silent.Goals.{in-Some, in-default}
+use Rattle.machines.proofs.clearing.silent.write_silent.Goals.{in-Some, in_default}
 
 pub join_silent-requires : goal.join_silent-requires
 join_silent-requires g c =
@@ -37,5 +37,5 @@ loop-number-preserved g c =
           (λ e. arc_adds o weighs (arc_row v e) 0) (arc_adds o weighs (row_of_arc w.in-Some.arc) 0) c.states-states.ensures
           (λ i k. ap (λ r. arc_adds o weighs r 0 i k) row) c.loop-number.invariant
           (λ i k h l. ap (λ t. table_of o g.K.Weight.meaning c.states-states.result t i k) w.table-is ∙ w.join_silent.ensures i k h l)
-      | in-default w ↦ absurd (arc_found v n within w.in-default.ensures)
+      | in_default w ↦ absurd (arc_found v n within w.in_default.ensures)
     ]
