@@ -59,7 +59,7 @@ fn arc_of(chart: &Chart, number: usize) -> Option<[u32; 6]> {
     ])
 }
 
-fn check_rows(rt: &impl Abort, chart: &Chart, rows: &[Row]) {
+fn check_rows(rt: &impl Abort, chart: &Chart, rows: &[Row], chart_name: &str) {
     for row in rows {
         let Row(name, number, start, end, arc) = *row;
         let answers = (
@@ -67,24 +67,25 @@ fn check_rows(rt: &impl Abort, chart: &Chart, rows: &[Row]) {
             chart.is_end(number),
             arc_of(chart, number),
         );
-        assert_eq!(rt; answers, (start, end, arc), "{}", name);
+        assert_eq!(rt; answers, (start, end, arc), "{chart_name}: {name}");
     }
 }
 
 fn check_answers(rt: &impl Abort, answers: &Answers) -> Result<(), Fail> {
+    let name = answers.name;
     let Ok(chart) = Chart::read(answers.file) else {
-        return Err(Fail::new("refused"));
+        return Err(Fail::new(format_args!("{name}: refused")));
     };
     let counts = (chart.states(), chart.letters(), chart.arcs());
-    assert_eq!(rt; counts, answers.counts);
-    check_rows(rt, &chart, answers.rows);
+    assert_eq!(rt; counts, answers.counts, "{name}");
+    check_rows(rt, &chart, answers.rows, name);
     Ok(())
 }
 
 #[test]
 fn chart_answers(rt: HostRuntime) -> Result<(), Fail> {
     for answers in &CHARTS {
-        check_answers(&rt, answers).note(answers.name)?;
+        check_answers(&rt, answers)?;
     }
     Ok(())
 }

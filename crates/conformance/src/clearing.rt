@@ -18,7 +18,12 @@ use weights::parts::Parts;
 use weights::possible::Possible;
 
 // The machine of a chart that has three states and 64 weights at most.
-fn cleared<K: Weight>(rt: &impl Abort, heap: Global, chart: &Chart) -> Result<Vec<K>, Fail> {
+fn cleared<K: Weight>(
+    rt: &impl Abort,
+    heap: Global,
+    name: &str,
+    chart: &Chart,
+) -> Result<Vec<K>, Fail> {
     let mut silent = filled(heap, K::zero(), 9)?;
     let mut scratch = filled(heap, K::zero(), 9)?;
     let mut table = filled(heap, K::zero(), 64)?;
@@ -28,7 +33,7 @@ fn cleared<K: Weight>(rt: &impl Abort, heap: Global, chart: &Chart) -> Result<Ve
         scratch.as_mut_slice(),
         table.as_mut_slice(),
     );
-    assert_eq!(rt; outcome(answer), 0);
+    assert_eq!(rt; outcome(answer), 0, "{name}");
     Ok(table)
 }
 
@@ -63,19 +68,20 @@ static ANSWERS: [Answer; 4] = [
 fn check_told<K: Weight>(
     rt: &impl Abort,
     heap: Global,
+    name: &str,
     chart: &Chart,
     log: &[u8],
     expected: K,
 ) -> Result<(), Fail> {
-    let table = cleared::<K>(rt, heap, chart)?;
+    let table = cleared::<K>(rt, heap, name, chart)?;
     let Ok(machine) = Machine::new(chart.states(), chart.letters(), table.as_slice()) else {
-        return Err(Fail::new("no machine"));
+        return Err(Fail::new(format_args!("{name}: no machine")));
     };
     let mut total = K::zero();
     for (state, start) in machine.starts().iter().enumerate() {
         total = total.plus(told(&machine, *start, state, log));
     }
-    assert!(rt; total.same(expected));
+    assert!(rt; total.same(expected), "{name}");
     Ok(())
 }
 
@@ -87,11 +93,11 @@ fn sample_is_told(rt: HostRuntime) -> Result<(), Fail> {
     };
     for answer in &ANSWERS {
         let Answer(name, log, minutes, grade, possible, parts, count) = *answer;
-        check_told(&rt, heap, &chart, log, Minutes(minutes)).note(name)?;
-        check_told(&rt, heap, &chart, log, Grade(grade)).note(name)?;
-        check_told(&rt, heap, &chart, log, Possible(possible)).note(name)?;
-        check_told(&rt, heap, &chart, log, Parts(parts)).note(name)?;
-        check_told(&rt, heap, &chart, log, Count(count)).note(name)?;
+        check_told(&rt, heap, name, &chart, log, Minutes(minutes))?;
+        check_told(&rt, heap, name, &chart, log, Grade(grade))?;
+        check_told(&rt, heap, name, &chart, log, Possible(possible))?;
+        check_told(&rt, heap, name, &chart, log, Parts(parts))?;
+        check_told(&rt, heap, name, &chart, log, Count(count))?;
     }
     Ok(())
 }
@@ -140,18 +146,19 @@ static LISTED: [Listed; 3] = [
 fn check_states<K: Weight>(
     rt: &impl Abort,
     heap: Global,
+    name: &str,
     chart: &Chart,
     log: &[u8],
 ) -> Result<(), Fail> {
-    let table = cleared::<K>(rt, heap, chart)?;
+    let table = cleared::<K>(rt, heap, name, chart)?;
     let Ok(machine) = Machine::new(chart.states(), chart.letters(), table.as_slice()) else {
-        return Err(Fail::new("no machine"));
+        return Err(Fail::new(format_args!("{name}: no machine")));
     };
     for state in 0..chart.states() {
         let weight = told(&machine, K::one(), state, log);
         // Longer paths change nothing.
         let paths = list_paths(chart, K::one(), state, log, 10);
-        assert!(rt; weight.same(paths));
+        assert!(rt; weight.same(paths), "{name}, from state {state}");
     }
     Ok(())
 }
@@ -160,10 +167,10 @@ fn check_listed<K: Weight>(rt: &impl Abort, heap: Global, cases: &[Listed]) -> R
     for case in cases {
         let Listed(name, file, logs) = *case;
         let Ok(chart) = Chart::read(file) else {
-            return Err(Fail::new("refused"));
+            return Err(Fail::new(format_args!("{name}: refused")));
         };
         for log in logs {
-            check_states::<K>(rt, heap, &chart, log).note(name)?;
+            check_states::<K>(rt, heap, name, &chart, log)?;
         }
     }
     Ok(())
@@ -173,10 +180,10 @@ fn check_listed<K: Weight>(rt: &impl Abort, heap: Global, cases: &[Listed]) -> R
 #[test]
 fn tells_like_the_paths(rt: HostRuntime) -> Result<(), Fail> {
     let heap = rt.alloc();
-    check_listed::<Minutes>(&rt, heap, &LISTED).note("minutes")?;
-    check_listed::<Grade>(&rt, heap, &LISTED).note("grade")?;
-    check_listed::<Possible>(&rt, heap, &LISTED).note("possible")?;
-    check_listed::<Parts>(&rt, heap, &LISTED).note("parts")?;
-    check_listed::<TwoTotals>(&rt, heap, &LISTED).note("two totals")?;
-    check_listed::<Count>(&rt, heap, &LISTED[0..1]).note("count")
+    check_listed::<Minutes>(&rt, heap, &LISTED)?;
+    check_listed::<Grade>(&rt, heap, &LISTED)?;
+    check_listed::<Possible>(&rt, heap, &LISTED)?;
+    check_listed::<Parts>(&rt, heap, &LISTED)?;
+    check_listed::<TwoTotals>(&rt, heap, &LISTED)?;
+    check_listed::<Count>(&rt, heap, &LISTED[0..1])
 }

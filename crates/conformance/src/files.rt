@@ -84,6 +84,7 @@ fn put_grades(file: &mut Vec<u8>, header: Header) {
 pub(crate) fn file_of(
     rt: &impl Abort,
     heap: Global,
+    name: &str,
     header: Header,
     length: usize,
     patches: &[Patch],
@@ -93,7 +94,7 @@ pub(crate) fn file_of(
     put_grades(&mut file, header);
     for (place, byte) in patches {
         // A patch that is lost would leave a case that tests nothing.
-        assert!(rt; *place < length);
+        assert!(rt; *place < length, "{name}");
         put(&mut file, *place, *byte);
     }
     Ok(file)

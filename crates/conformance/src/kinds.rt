@@ -35,21 +35,21 @@ fn check_pairs<W: Weight>(rt: &impl Abort, pairs: &[Pair<W>]) {
         let Pair(name, left, right, join, chain) = *pair;
         let joins = left.plus(right).same(join);
         let chains = left.times(right).same(chain);
-        assert_eq!(rt; (joins, chains), (true, true), "{}", name);
+        assert_eq!(rt; (joins, chains), (true, true), "{name}");
     }
 }
 
 fn check_loops<W: Weight>(rt: &impl Abort, loops: &[Loop<W>]) {
     for row in loops {
         let Loop(name, once, always) = *row;
-        assert!(rt; once.star().same(always), "{}", name);
+        assert!(rt; once.star().same(always), "{name}");
     }
 }
 
 fn check_same<W: Weight>(rt: &impl Abort, pairs: &[Same<W>]) {
     for pair in pairs {
         let Same(name, left, right, same) = *pair;
-        assert_eq!(rt; left.same(right), same, "{}", name);
+        assert_eq!(rt; left.same(right), same, "{name}");
     }
 }
 
@@ -76,6 +76,6 @@ fn check_ranks<W: Ranked>(rt: &impl Abort, ranks: &[Rank<W>]) {
     for pair in ranks {
         let Rank(name, left, right, forth, back) = *pair;
         let kept = (left.keep(right), right.keep(left));
-        assert_eq!(rt; kept, (forth, back), "{}", name);
+        assert_eq!(rt; kept, (forth, back), "{name}");
     }
 }

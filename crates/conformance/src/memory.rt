@@ -23,6 +23,7 @@ pub(crate) fn outcome(answer: Result<(), Refusal>) -> u8 {
 // The memory was filled with one weight, and behind its first places it still is. A call that refuses has no place.
 pub(crate) fn check_rest<K: Weight>(
     rt: &impl Abort,
+    name: &str,
     memory: &[K],
     outcome: u8,
     places: usize,
@@ -30,6 +31,6 @@ pub(crate) fn check_rest<K: Weight>(
 ) {
     let used = if outcome == 0 { places } else { 0 };
     for weight in memory.iter().skip(used) {
-        assert!(rt; weight.same(filling));
+        assert!(rt; weight.same(filling), "{name}");
     }
 }

@@ -45,6 +45,7 @@ fn places(place: usize) -> (usize, usize) {
 
 fn check_crossed<K: Weight>(
     rt: &impl Abort,
+    kind: &str,
     first: &[K],
     second: &[K],
     crossed: &[K],
@@ -53,32 +54,33 @@ fn check_crossed<K: Weight>(
         let (before, behind) = places(place);
         let before = first.get(before).copied().ok_or("no weight")?;
         let behind = second.get(behind).copied().ok_or("no weight")?;
-        assert!(rt; weight.same(before.times(behind)));
+        assert!(rt; weight.same(before.times(behind)), "{kind}, at {place}");
     }
     Ok(())
 }
 
-fn check_kind<K: Weight>(rt: &impl Abort, heap: Global) -> Result<(), Fail> {
+fn check_kind<K: Weight>(rt: &impl Abort, heap: Global, kind: &str) -> Result<(), Fail> {
     let one = numbered::<K>(heap, 0, 24)?;
     let other = numbered::<K>(heap, 40, 52)?;
     let mut table = filled(heap, K::zero(), 84)?;
     let Ok(first) = Machine::new(3, 2, one.as_slice()) else {
-        return Err(Fail::new("no first"));
+        return Err(Fail::new(format_args!("{kind}: no first")));
     };
     let Ok(second) = Machine::new(2, 2, other.as_slice()) else {
-        return Err(Fail::new("no second"));
+        return Err(Fail::new(format_args!("{kind}: no second")));
     };
-    assert_eq!(rt; outcome(cross(&first, &second, table.as_mut_slice())), 0);
-    check_crossed(rt, one.as_slice(), other.as_slice(), table.as_slice())
+    let answer = cross(&first, &second, table.as_mut_slice());
+    assert_eq!(rt; outcome(answer), 0, "{kind}");
+    check_crossed(rt, kind, one.as_slice(), other.as_slice(), table.as_slice())
 }
 
 #[test]
 fn crosses_every_weight(rt: HostRuntime) -> Result<(), Fail> {
     let heap = rt.alloc();
-    check_kind::<Minutes>(&rt, heap).note("minutes")?;
-    check_kind::<Grade>(&rt, heap).note("grade")?;
-    check_kind::<Possible>(&rt, heap).note("possible")?;
-    check_kind::<Parts>(&rt, heap).note("parts")?;
-    check_kind::<Count>(&rt, heap).note("count")?;
-    check_kind::<TwoTotals>(&rt, heap).note("two totals")
+    check_kind::<Minutes>(&rt, heap, "minutes")?;
+    check_kind::<Grade>(&rt, heap, "grade")?;
+    check_kind::<Possible>(&rt, heap, "possible")?;
+    check_kind::<Parts>(&rt, heap, "parts")?;
+    check_kind::<Count>(&rt, heap, "count")?;
+    check_kind::<TwoTotals>(&rt, heap, "two totals")
 }

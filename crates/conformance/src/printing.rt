@@ -75,23 +75,29 @@ static REFUSALS: [Line; 14] = [
     Line("no path", Refusal::NoPath, "refused 14 0\n"),
 ];
 
-fn check_report(rt: &impl Abort, heap: Global, file: &[u8], text: &str) -> Result<(), Fail> {
+fn check_report(
+    rt: &impl Abort,
+    heap: Global,
+    name: &str,
+    file: &[u8],
+    text: &str,
+) -> Result<(), Fail> {
     let report = chart_report(heap, file)?;
-    assert_eq!(rt; report.as_str(), text);
+    assert_eq!(rt; report.as_str(), text, "{name}");
     Ok(())
 }
 
 fn check_refused(rt: &impl Abort, heap: Global, case: &Refused) -> Result<(), Fail> {
-    let Refused(_, header, length, patches, text) = *case;
-    let file = file_of(rt, heap, header, length, patches)?;
-    check_report(rt, heap, file.as_slice(), text)
+    let Refused(name, header, length, patches, text) = *case;
+    let file = file_of(rt, heap, name, header, length, patches)?;
+    check_report(rt, heap, name, file.as_slice(), text)
 }
 
 #[test]
 fn chart_reports(rt: HostRuntime) -> Result<(), Fail> {
     for case in &REPORTS {
         let Report(name, file, text) = *case;
-        check_report(&rt, rt.alloc(), file, text).note(name)?;
+        check_report(&rt, rt.alloc(), name, file, text)?;
     }
     Ok(())
 }
@@ -99,7 +105,7 @@ fn chart_reports(rt: HostRuntime) -> Result<(), Fail> {
 #[test]
 fn refused_files(rt: HostRuntime) -> Result<(), Fail> {
     for case in &REFUSED {
-        check_refused(&rt, rt.alloc(), case).note(case.0)?;
+        check_refused(&rt, rt.alloc(), case)?;
     }
     Ok(())
 }
@@ -110,7 +116,7 @@ fn refusal_lines(rt: HostRuntime) -> Result<(), Fail> {
     for case in &REFUSALS {
         let Line(name, refusal, text) = *case;
         let line = refusal_line(heap, refusal)?;
-        assert_eq!(rt; line.as_str(), text, "{}", name);
+        assert_eq!(rt; line.as_str(), text, "{name}");
     }
     Ok(())
 }

@@ -194,16 +194,16 @@ fn outcome(file: &[u8]) -> (u8, u16) {
 }
 
 fn check_case(rt: &impl Abort, heap: Global, case: &Case) -> Result<(), Fail> {
-    let Case(_, header, patches, expected) = *case;
+    let Case(name, header, patches, expected) = *case;
     let [_, _, _, _, _, total] = header;
-    let file = file_of(rt, heap, header, usize::from(total), patches)?;
-    assert_eq!(rt; outcome(file.as_slice()), expected);
+    let file = file_of(rt, heap, name, header, usize::from(total), patches)?;
+    assert_eq!(rt; outcome(file.as_slice()), expected, "{name}");
     Ok(())
 }
 
 fn check_cases(rt: &impl Abort, heap: Global, cases: &[Case]) -> Result<(), Fail> {
     for case in cases {
-        check_case(rt, heap, case).note(case.0)?;
+        check_case(rt, heap, case)?;
     }
     Ok(())
 }

@@ -26,6 +26,6 @@ fn arc_records(rt: HostRuntime) {
     for case in &RECORDS {
         let Case(name, minutes, grade, parts, made) = *case;
         let record = ArcRecord::new(minutes, grade, parts);
-        assert_eq!(rt; record.is_some(), made, "{}", name);
+        assert_eq!(rt; record.is_some(), made, "{name}");
     }
 }

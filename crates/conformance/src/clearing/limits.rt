@@ -22,7 +22,7 @@ static CALLS: [Call; 6] = [
 ];
 
 fn check_call(rt: &impl Abort, heap: Global, chart: &Chart, call: &Call) -> Result<(), Fail> {
-    let Call(_, silent_length, scratch_length, table_length, expected) = *call;
+    let Call(name, silent_length, scratch_length, table_length, expected) = *call;
     let mut silent = filled(heap, Count(7), silent_length)?;
     let mut scratch = filled(heap, Count(8), scratch_length)?;
     let mut table = filled(heap, Count(9), table_length)?;
@@ -33,10 +33,10 @@ fn check_call(rt: &impl Abort, heap: Global, chart: &Chart, call: &Call) -> Resu
         table.as_mut_slice(),
     );
     let outcome = outcome(answer);
-    assert_eq!(rt; outcome, expected);
-    check_rest(rt, silent.as_slice(), outcome, 9, Count(7));
-    check_rest(rt, scratch.as_slice(), outcome, 9, Count(8));
-    check_rest(rt, table.as_slice(), outcome, 24, Count(9));
+    assert_eq!(rt; outcome, expected, "{name}");
+    check_rest(rt, name, silent.as_slice(), outcome, 9, Count(7));
+    check_rest(rt, name, scratch.as_slice(), outcome, 9, Count(8));
+    check_rest(rt, name, table.as_slice(), outcome, 24, Count(9));
     Ok(())
 }
 
@@ -46,7 +46,7 @@ fn clearing_limits(rt: HostRuntime) -> Result<(), Fail> {
         return Err(Fail::new("refused"));
     };
     for call in &CALLS {
-        check_call(&rt, rt.alloc(), &chart, call).note(call.0)?;
+        check_call(&rt, rt.alloc(), &chart, call)?;
     }
     Ok(())
 }

@@ -26,22 +26,22 @@ static CALLS: [Call; 13] = [
 ];
 
 fn check_call(rt: &impl Abort, heap: Global, call: &Call) -> Result<(), Fail> {
-    let Call(_, states, table_length, scratch_length, expected) = *call;
+    let Call(name, states, table_length, scratch_length, expected) = *call;
     let mut table = filled(heap, Count(7), table_length)?;
     let mut scratch = filled(heap, Count(9), scratch_length)?;
     let answer = close_table(states, table.as_mut_slice(), scratch.as_mut_slice());
     let outcome = outcome(answer);
-    assert_eq!(rt; outcome, expected);
+    assert_eq!(rt; outcome, expected, "{name}");
     let places = states.saturating_mul(states);
-    check_rest(rt, table.as_slice(), outcome, places, Count(7));
-    check_rest(rt, scratch.as_slice(), outcome, places, Count(9));
+    check_rest(rt, name, table.as_slice(), outcome, places, Count(7));
+    check_rest(rt, name, scratch.as_slice(), outcome, places, Count(9));
     Ok(())
 }
 
 #[test]
 fn closing_limits(rt: HostRuntime) -> Result<(), Fail> {
     for call in &CALLS {
-        check_call(&rt, rt.alloc(), call).note(call.0)?;
+        check_call(&rt, rt.alloc(), call)?;
     }
     Ok(())
 }

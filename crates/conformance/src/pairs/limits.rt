@@ -26,13 +26,13 @@ static MADE: [Made; 11] = [
 ];
 
 fn check_made<K: Weight>(rt: &impl Abort, heap: Global, made: &Made) -> Result<(), Fail> {
-    let Made(_, states, letters, length, expected) = *made;
+    let Made(name, states, letters, length, expected) = *made;
     let table = filled(heap, K::one(), length)?;
     let outcome = match Machine::new(states, letters, table.as_slice()) {
         Ok(_) => 0,
         Err(refusal) => refusal.number(),
     };
-    assert_eq!(rt; outcome, expected);
+    assert_eq!(rt; outcome, expected, "{name}");
     Ok(())
 }
 
@@ -60,19 +60,19 @@ fn check_call<K: Weight>(
     call: &Call,
     filling: K,
 ) -> Result<(), Fail> {
-    let Call(_, (one, one_letters), (other, other_letters), size, length, expected) = *call;
+    let Call(name, (one, one_letters), (other, other_letters), size, length, expected) = *call;
     // A machine may lie at the front of a table that is longer: these are enough for each.
     let ones = filled(heap, K::one(), 8320)?;
     let mut table = filled(heap, filling, length)?;
     let Ok(first) = Machine::new(one, one_letters, ones.as_slice()) else {
-        return Err(Fail::new("no first"));
+        return Err(Fail::new(format_args!("{name}: no first")));
     };
     let Ok(second) = Machine::new(other, other_letters, ones.as_slice()) else {
-        return Err(Fail::new("no second"));
+        return Err(Fail::new(format_args!("{name}: no second")));
     };
     let outcome = outcome(cross(&first, &second, table.as_mut_slice()));
-    assert_eq!(rt; outcome, expected);
-    check_rest(rt, table.as_slice(), outcome, size, filling);
+    assert_eq!(rt; outcome, expected, "{name}");
+    check_rest(rt, name, table.as_slice(), outcome, size, filling);
     Ok(())
 }
 
@@ -80,10 +80,10 @@ fn check_call<K: Weight>(
 fn crossing_limits(rt: HostRuntime) -> Result<(), Fail> {
     let heap = rt.alloc();
     for made in &MADE {
-        check_made::<Count>(&rt, heap, made).note(made.0)?;
+        check_made::<Count>(&rt, heap, made)?;
     }
     for call in &CALLS {
-        check_call(&rt, heap, call, Count(7)).note(call.0)?;
+        check_call(&rt, heap, call, Count(7))?;
     }
     Ok(())
 }
