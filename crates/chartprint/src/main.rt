@@ -1,4 +1,6 @@
 // Prints the chart on standard input as a table, or why it is none.
+#![tactic(auto)]
+
 use reports::tables::{ENOUGH, chart_report};
 use std::io::Read;
 

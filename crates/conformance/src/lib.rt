@@ -1,3 +1,5 @@
+#![tactic(auto)]
+
 // Tables of cases: charts on both sides of every limit, the kinds at their edges, tables that are closed, and what is
 // printed. One kind of weight is made for them.
 #[cfg(test)]

@@ -1,4 +1,6 @@
 // Crossing two machines: a machine of their pairs of states, which reads the same letters on both.
+#![tactic(auto)]
+
 mod pairs;
 
 ghost use Rattle.std.specs.Prelude.{◌≡◌, ◌*◌, ◌≤◌, true, length, is_ok};

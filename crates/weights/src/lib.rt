@@ -1,5 +1,7 @@
 // Kinds of weight: what a path through a fault chart may be measured in.
 // A kind is a semiring whose star is a finite sum; all that is built above rests on these promises alone.
+#![tactic(auto)]
+
 pub mod arcs;
 pub mod count;
 pub mod grade;
