@@ -55,7 +55,10 @@ TYPES = """
     Part-all Closes-uniformly Crossed-below Joined-at Kept-behind Pair-blocks
 """.split()
 
-TABLE = {name: name.replace("-", "_") for name in WORDS}
+# names that port.py turned only in part, since the library has one like them
+TURNED = {"Row_is": "RowIs", "rows_Inside": "rows_inside"}
+
+TABLE = {name: name.replace("-", "_") for name in WORDS} | TURNED
 TABLE |= {name: "".join(part[0].upper() + part[1:] for part in name.split("-")) for name in TYPES}
 
 WORD = re.compile(r"[^\s(){}.;,@\"«»]+")

@@ -35,8 +35,8 @@ pub tables_fit_is : (h : Header) → 12 ≤ h.marks → h.marks + h.states ≤ h
     → leb (min (h.marks + h.states) (h.rows + 12 * h.arcs)) (max h.marks h.rows) ≡ tables_fit h
 tables_fit_is h a b c d =
     let marks_inside = and_from _ _ (le-leb _ _ a) (le-leb _ _ b) in
-    let rows_Inside = and_from _ _ (le-leb _ _ c) (le-leb _ _ d) in
-    let both = and_from (inside h.marks h.states h.total) (inside h.rows (12 * h.arcs) h.total) marks_inside rows_Inside in
+    let rows_inside = and_from _ _ (le-leb _ _ c) (le-leb _ _ d) in
+    let both = and_from (inside h.marks h.states h.total) (inside h.rows (12 * h.arcs) h.total) marks_inside rows_inside in
     let apart = same_from_decides _ _ (decides_apart h.marks h.states h.rows (12 * h.arcs) h.total b) (decides_share h.marks h.states h.rows (12 * h.arcs) h.total) in
     rw both apart
 

@@ -146,31 +146,37 @@ static LISTED: [Listed; 3] = [
 fn check_states<K: Weight>(
     rt: &impl Abort,
     heap: Global,
+    kind: &str,
     name: &str,
     chart: &Chart,
     log: &[u8],
 ) -> Result<(), Fail> {
     let table = cleared::<K>(rt, heap, name, chart)?;
     let Ok(machine) = Machine::new(chart.states(), chart.letters(), table.as_slice()) else {
-        return Err(Fail::new(format_args!("{name}: no machine")));
+        return Err(Fail::new(format_args!("{kind}, {name}: no machine")));
     };
     for state in 0..chart.states() {
         let weight = told(&machine, K::one(), state, log);
         // Longer paths change nothing.
         let paths = list_paths(chart, K::one(), state, log, 10);
-        assert!(rt; weight.same(paths), "{name}, from state {state}");
+        assert!(rt; weight.same(paths), "{kind}, {name}, from state {state}");
     }
     Ok(())
 }
 
-fn check_listed<K: Weight>(rt: &impl Abort, heap: Global, cases: &[Listed]) -> Result<(), Fail> {
+fn check_listed<K: Weight>(
+    rt: &impl Abort,
+    heap: Global,
+    kind: &str,
+    cases: &[Listed],
+) -> Result<(), Fail> {
     for case in cases {
         let Listed(name, file, logs) = *case;
         let Ok(chart) = Chart::read(file) else {
-            return Err(Fail::new(format_args!("{name}: refused")));
+            return Err(Fail::new(format_args!("{kind}, {name}: refused")));
         };
         for log in logs {
-            check_states::<K>(rt, heap, name, &chart, log)?;
+            check_states::<K>(rt, heap, kind, name, &chart, log)?;
         }
     }
     Ok(())
@@ -180,10 +186,10 @@ fn check_listed<K: Weight>(rt: &impl Abort, heap: Global, cases: &[Listed]) -> R
 #[test]
 fn tells_like_the_paths(rt: HostRuntime) -> Result<(), Fail> {
     let heap = rt.alloc();
-    check_listed::<Minutes>(&rt, heap, &LISTED)?;
-    check_listed::<Grade>(&rt, heap, &LISTED)?;
-    check_listed::<Possible>(&rt, heap, &LISTED)?;
-    check_listed::<Parts>(&rt, heap, &LISTED)?;
-    check_listed::<TwoTotals>(&rt, heap, &LISTED)?;
-    check_listed::<Count>(&rt, heap, &LISTED[0..1])
+    check_listed::<Minutes>(&rt, heap, "minutes", &LISTED)?;
+    check_listed::<Grade>(&rt, heap, "grade", &LISTED)?;
+    check_listed::<Possible>(&rt, heap, "possible", &LISTED)?;
+    check_listed::<Parts>(&rt, heap, "parts", &LISTED)?;
+    check_listed::<TwoTotals>(&rt, heap, "two totals", &LISTED)?;
+    check_listed::<Count>(&rt, heap, "count", &LISTED[0..1])
 }

@@ -140,6 +140,7 @@ fn list_walks<K: Weight>(states: usize, table: &[K], walked: K, ends: Ends, step
 fn check_table<K: Weight>(
     rt: &impl Abort,
     heap: Global,
+    kind: &str,
     name: &str,
     states: usize,
     table: &[K],
@@ -147,22 +148,27 @@ fn check_table<K: Weight>(
     let mut closed = Vec::from_slice(heap, table)?;
     let mut scratch = Vec::from_slice(heap, table)?;
     let answer = close_table(states, closed.as_mut_slice(), scratch.as_mut_slice());
-    assert_eq!(rt; outcome(answer), 0, "{name}");
-    assert!(rt; states > 0, "{name}");
+    assert_eq!(rt; outcome(answer), 0, "{kind}, {name}");
+    assert!(rt; states > 0, "{kind}, {name}");
     for (place, entry) in closed.iter().enumerate() {
         let ends = (place / states, place % states);
         // Longer walks change nothing in any of the tables.
         let walks = list_walks(states, table, K::one(), ends, 5);
-        assert!(rt; entry.same(walks), "{name}, at {place}");
+        assert!(rt; entry.same(walks), "{kind}, {name}, at {place}");
     }
     Ok(())
 }
 
-fn check_cases<K: Weight>(rt: &impl Abort, heap: Global, cases: &[Case]) -> Result<(), Fail> {
+fn check_cases<K: Weight>(
+    rt: &impl Abort,
+    heap: Global,
+    kind: &str,
+    cases: &[Case],
+) -> Result<(), Fail> {
     for case in cases {
         let Case(name, states, steps) = *case;
         let table = table_of::<K>(heap, states, steps)?;
-        check_table(rt, heap, name, states, table.as_slice())?;
+        check_table(rt, heap, kind, name, states, table.as_slice())?;
     }
     Ok(())
 }
@@ -171,12 +177,12 @@ fn check_cases<K: Weight>(rt: &impl Abort, heap: Global, cases: &[Case]) -> Resu
 #[test]
 fn closes_like_the_walks(rt: HostRuntime) -> Result<(), Fail> {
     let heap = rt.alloc();
-    check_cases::<Minutes>(&rt, heap, &CASES)?;
-    check_cases::<Grade>(&rt, heap, &CASES)?;
-    check_cases::<Possible>(&rt, heap, &CASES)?;
-    check_cases::<Parts>(&rt, heap, &CASES)?;
-    check_cases::<TwoTotals>(&rt, heap, &CASES[0..7])?;
-    check_cases::<Count>(&rt, heap, &CASES[0..4])
+    check_cases::<Minutes>(&rt, heap, "minutes", &CASES)?;
+    check_cases::<Grade>(&rt, heap, "grade", &CASES)?;
+    check_cases::<Possible>(&rt, heap, "possible", &CASES)?;
+    check_cases::<Parts>(&rt, heap, "parts", &CASES)?;
+    check_cases::<TwoTotals>(&rt, heap, "two totals", &CASES[0..7])?;
+    check_cases::<Count>(&rt, heap, "count", &CASES[0..4])
 }
 
 // From 1 by way of 0, which has a marked ring, to 2: there is one way past the ring, and one way round it. A closing

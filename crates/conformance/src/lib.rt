@@ -1,7 +1,7 @@
-#![tactic(auto)]
-
 // Tables of cases: charts on both sides of every limit, the kinds at their edges, tables that are closed, and what is
 // printed. One kind of weight is made for them.
+#![tactic(auto)]
+
 #[cfg(test)]
 mod answers;
 #[cfg(test)]

@@ -10,7 +10,7 @@ use Rattle.machines.specs.Arcs.{block_entry}
 use Rattle.machines.specs.Machine.{Machine, crossed}
 use Rattle.machines.specs.Shapes.{machine_size, block_part}
 use Rattle.crossing.specs.Crossings.{Paired, pair_table}
-use Rattle.machines.proofs.Places.{Upto, Row_is, upto_more, block_fits, weight_part}
+use Rattle.machines.proofs.Places.{Upto, RowIs, upto_more, block_fits, weight_part}
 use Rattle.machines.proofs.Added.{block_put_in, block_put_out}
 
 -- where there is a pair there is a second
@@ -27,7 +27,7 @@ pair_second m n i h = mod_below i n (seconds m n i h)
 
 -- rows that are the chains of a first weight and a row of seconds are the pairs
 pub rows_paired : {K W : Type 0} (o : Ops W) (meaning : K → W) (first second pairs : List K) →
-    ((r : ℕ) → r < length first → Row_is o meaning (length second) pairs r (λ q. o.times (weight_at o meaning first r) (weight_at o meaning second q))) →
+    ((r : ℕ) → r < length first → RowIs o meaning (length second) pairs r (λ q. o.times (weight_at o meaning first r) (weight_at o meaning second q))) →
     Paired o meaning first second pairs
 rows_paired o meaning first second pairs rows i h =
     let n = length second in

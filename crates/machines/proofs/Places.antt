@@ -139,17 +139,17 @@ module _ {K W : Type 0} (o : Ops W) (meaning : K → W) where
         rw (front, here) at second ∙ rw long at third ∙ weight_drop n (drop a ws) r ∙ weight_drop a ws (n + r) ∙ ap (weight_at o meaning ws) here
 
 -- row r of a table of rows of d places has the weights f
-abbrev pub Row_is : {K W : Type 0} → Ops W → (K → W) → ℕ → List K → ℕ → (ℕ → W) → Type 0
-Row_is o meaning d ws r f = (q : ℕ) → q < d → table_of o meaning d ws r q ≡ f q
+abbrev pub RowIs : {K W : Type 0} → Ops W → (K → W) → ℕ → List K → ℕ → (ℕ → W) → Type 0
+RowIs o meaning d ws r f = (q : ℕ) → q < d → table_of o meaning d ws r q ≡ f q
 
 -- a row n of d places is written; k is its length as the code has it
 module _ {K W : Type 0} (o : Ops W) (meaning : K → W) (d n k : ℕ) (ws ys : List K) (same : k ≡ d) (begins : n * d ≤ length ws) (long : length ys ≡ d) where
   -- it has what was written
-  pub row_put_in : {f : ℕ → W} → ((q : ℕ) → q < d → weight_at o meaning ys q ≡ f q) → Row_is o meaning d (put_mid (n * d) k ws ys) n f
+  pub row_put_in : {f : ℕ → W} → ((q : ℕ) → q < d → weight_at o meaning ys q ≡ f q) → RowIs o meaning d (put_mid (n * d) k ws ys) n f
   row_put_in e = rw same (λ q h. weight_put_in o meaning (n * d) d ws ys begins long q h ∙ e q h)
 
   -- the other rows are as they were
-  pub row_put_out : {f : ℕ → W} (r : ℕ) → (r ≡ n → ⊥) → Row_is o meaning d ws r f → Row_is o meaning d (put_mid (n * d) k ws ys) r f
+  pub row_put_out : {f : ℕ → W} (r : ℕ) → (r ≡ n → ⊥) → RowIs o meaning d ws r f → RowIs o meaning d (put_mid (n * d) k ws ys) r f
   row_put_out r other e = rw same (λ q h. elim (cases_lt r n) [
     | inl x ↦ weight_put_before o meaning (n * d) d ws ys begins long (r * d + q) (digits_lt x h) ∙ e q h
     | inr x ↦ weight_put_behind o meaning (n * d) d ws ys begins long (r * d + q) (row_before d n r q (omega arith)) ∙ e q h
@@ -157,18 +157,18 @@ module _ {K W : Type 0} (o : Ops W) (meaning : K → W) (d n k : ℕ) (ws ys : L
 
   -- one more row is done
   pub upto_put : {f : ℕ → ℕ → W} {Left Left' : ℕ → Type 0} → ((q : ℕ) → q < d → weight_at o meaning ys q ≡ f n q) →
-      ((r : ℕ) → (r ≡ n → ⊥) → Left r → Left' r) → Upto (λ r. Row_is o meaning d ws r (f r)) Left n →
-      Upto (λ r. Row_is o meaning d (put_mid (n * d) k ws ys) r (f r)) Left' (n + 1)
+      ((r : ℕ) → (r ≡ n → ⊥) → Left r → Left' r) → Upto (λ r. RowIs o meaning d ws r (f r)) Left n →
+      Upto (λ r. RowIs o meaning d (put_mid (n * d) k ws ys) r (f r)) Left' (n + 1)
   upto_put {f} e left u = upto_more n u (row_put_in e) (λ r x. row_put_out {f = f r} r x) left
 
 -- a weight is joined into place k of row n
 module _ {K W : Type 0} (o : Ops W) (meaning : K → W) (d n k : ℕ) {w : W} (ws new : List K) (within : k < d) (joined : JoinedAt o meaning (n * d + k) w ws new) where
   -- the other rows are as they were
-  row_join_other : {f : ℕ → W} (r : ℕ) → (r ≡ n → ⊥) → Row_is o meaning d ws r f → Row_is o meaning d new r f
+  row_join_other : {f : ℕ → W} (r : ℕ) → (r ≡ n → ⊥) → RowIs o meaning d ws r f → RowIs o meaning d new r f
   row_join_other r other e q h = joined.others (r * d + q) (λ s. other (same_row d r n h within s)) ∙ e q h
 
   -- in its own row, only that place changes
-  row_join_same : {f g : ℕ → W} → o.plus (g k) w ≡ f k → ((q : ℕ) → (q ≡ k → ⊥) → g q ≡ f q) → Row_is o meaning d ws n g → Row_is o meaning d new n f
+  row_join_same : {f g : ℕ → W} → o.plus (g k) w ≡ f k → ((q : ℕ) → (q ≡ k → ⊥) → g q ≡ f q) → RowIs o meaning d ws n g → RowIs o meaning d new n f
   row_join_same {f} e others held q h = elim (cases_eq q k) [
     | inl s ↦ rw s (joined.here ∙ ap (λ x. o.plus x w) (held k within) ∙ e)
     | inr y ↦ joined.others (n * d + q) (λ s. y (omega arith)) ∙ held q h ∙ others q y
@@ -176,8 +176,8 @@ module _ {K W : Type 0} (o : Ops W) (meaning : K → W) (d n k : ℕ) {w : W} (w
 
   -- one more row is done
   pub upto_join : {f g : ℕ → ℕ → W} → o.plus (g n k) w ≡ f n k → ((q : ℕ) → (q ≡ k → ⊥) → g n q ≡ f n q) →
-      Upto (λ r. Row_is o meaning d ws r (f r)) (λ r. Row_is o meaning d ws r (g r)) n →
-      Upto (λ r. Row_is o meaning d new r (f r)) (λ r. Row_is o meaning d new r (g r)) (n + 1)
+      Upto (λ r. RowIs o meaning d ws r (f r)) (λ r. RowIs o meaning d ws r (g r)) n →
+      Upto (λ r. RowIs o meaning d new r (f r)) (λ r. RowIs o meaning d new r (g r)) (n + 1)
   upto_join {f} {g} e others u =
       let here = row_join_same {f = f n} {g = g n} e others (u.after n (omega arith)) in
       upto_more n u here (λ r y. row_join_other {f = f r} r y) (λ r y. row_join_other {f = g r} r y)

@@ -3,14 +3,14 @@ use Rattle.std.proofs.Common.{◌≡◌, ℕ, zero, suc, ◌*◌, ◌<◌, ◌�
 use Rattle.weights.specs.Semiring.{Ops, Laws}
 use Rattle.machines.specs.Closure.{Table, diagonal, round, rounds, closed}
 use Rattle.machines.specs.Tables.{weight_at, table_of, Joined, Entries, Closed}
-use Rattle.machines.proofs.Places.{Row_is, weight_part, table_take, table_front}
+use Rattle.machines.proofs.Places.{RowIs, weight_part, table_take, table_front}
 use Rattle.machines.proofs.Closes.{closes_uniformly}
 
 module _ {K W : Type 0} (o : Ops W) (meaning : K → W) (d j i : ℕ) (within : j < d) where
   -- with the old row of the pivot kept, the star of its old entry and the row's own old entry, a row becomes that of the
   -- round; n is the row's length as the code has it
   pub round_row : {start star factor : W} (old now kept row : List K) (n : ℕ) → n ≡ d → length kept ≡ d →
-      kept ≡ take d (drop (j * d) old) → Row_is o meaning d now i (table_of o meaning d old i) →
+      kept ≡ take d (drop (j * d) old) → RowIs o meaning d now i (table_of o meaning d old i) →
       weight_at o meaning (take n (drop (i * d) now)) j ≡ start → star ≡ o.star (weight_at o meaning kept j) → factor ≡ o.times start star →
       Joined o meaning (take n (drop (i * d) now)) factor kept row →
       (q : ℕ) → q < d → weight_at o meaning row q ≡ round o j (table_of o meaning d old) i q

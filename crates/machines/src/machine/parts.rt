@@ -1,5 +1,5 @@
 // Making a machine on a table, and the parts that it has.
-ghost use Rattle.std.specs.Prelude.{◌≡◌, ◌&&◌, leb, [], length, if◌then◌else◌, nat_le};
+ghost use Rattle.std.specs.Prelude.{◌≡◌, ◌&&◌, [], length, if◌then◌else◌, nat_le};
 ghost use Rattle.machines.specs.Meant.{lent, made};
 ghost use Rattle.machines.specs.Questions.{machine_answer};
 ghost use Rattle.machines.specs.Shapes.{start_part, end_part, block_part};
@@ -57,7 +57,7 @@ impl<'a, K> Machine<'a, K> {
 
     // The block of a letter, row by row; it is empty where the machine has no such letter.
     pub fn block(&self, letter: u8) -> &[K]
-        ensures { result.now ≡ (if leb 1 letter && nat_le letter (lent self.now).letters then block_part (lent self.now).states letter (lent self.now).table else []) }
+        ensures { result.now ≡ (if nat_le 1 letter && nat_le letter (lent self.now).letters then block_part (lent self.now).states letter (lent self.now).table else []) }
     {
         if letter < 1 || letter > self.letters {
             return &self.table[..0];

@@ -1,6 +1,6 @@
 use Rattle.machines.specs.Closure.{round}
 use Rattle.machines.specs.Tables.{table_of}
-use Rattle.machines.proofs.Places.{Upto, Row_is}
+use Rattle.machines.proofs.Places.{Upto, RowIs}
 use Rattle.machines.proofs.closure.close_round.Given as goal
 
 abbrev pub invariant-loop-i : goal.invariant-loop-i
@@ -9,6 +9,6 @@ invariant-loop-i g l =
     let meaning = g.K.Weight.meaning in
     let old = table_of o meaning l.states l.initial.table in
     Upto
-    (λ r. Row_is o meaning l.states l.table r (round o l.pivot old r))
-    (λ r. Row_is o meaning l.states l.table r (old r))
+    (λ r. RowIs o meaning l.states l.table r (round o l.pivot old r))
+    (λ r. RowIs o meaning l.states l.table r (old r))
     l.i

@@ -1,6 +1,6 @@
 use Rattle.machines.specs.Closure.{diagonal}
 use Rattle.machines.specs.Tables.{table_of}
-use Rattle.machines.proofs.Places.{Upto, Row_is}
+use Rattle.machines.proofs.Places.{Upto, RowIs}
 use Rattle.machines.proofs.closure.join_one.Given as goal
 
 abbrev pub invariant-loop-i : goal.invariant-loop-i
@@ -9,6 +9,6 @@ invariant-loop-i g l =
     let meaning = g.K.Weight.meaning in
     let old = table_of o meaning l.states l.initial.table in
     Upto
-    (λ r. Row_is o meaning l.states l.table r (λ q. o.plus (old r q) (diagonal o r q)))
-    (λ r. Row_is o meaning l.states l.table r (old r))
+    (λ r. RowIs o meaning l.states l.table r (λ q. o.plus (old r q) (diagonal o r q)))
+    (λ r. RowIs o meaning l.states l.table r (old r))
     l.i
