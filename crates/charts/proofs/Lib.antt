@@ -4,3 +4,4 @@ pub mod Marked
 pub mod Fitting
 pub mod Decoded
 pub mod Sound
+pub mod InOrder

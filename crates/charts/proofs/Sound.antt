@@ -1,18 +1,12 @@
--- The arcs of a chart stand between its states, and an arc that is answered is that of the automaton.
-use Rattle.std.proofs.Common.{◌≡◌, ℕ, ◌<◌, ◌≤◌, true, ◌&&◌, eqb, ltb, leb, [], length, Some, None, ◌∙◌, arith}
-use Rattle.std.specs.Option.{option_map}
-use Rattle.std.specs.List.{slice_get}
-use Rattle.std.proofs.lemmas.Option.{slice_get-get_or}
+-- The arcs of a chart stand between its states.
+use Rattle.std.proofs.Common.{◌≡◌, ℕ, ◌<◌, ◌≤◌, true, ◌&&◌, eqb, ltb, leb, List, [], length, sym}
 use Rattle.std.proofs.lemmas.Bool.{and_parts, ltb-true, leb-true}
 use Rattle.charts.specs.Views.{View, Row, row_of, arc_row, arc_row_fits}
-use Rattle.charts.specs.Arcs.{row_of_arc}
 use Rattle.charts.specs.Held.{fits}
-use Rattle.charts.specs.Charts.{view}
 use Rattle.charts.specs.Automaton.{automaton, Sound}
-use Rattle.charts.specs.declared.arcs.Arc.{Arc}
-use Rattle.charts.specs.declared.reading.Chart.{Chart}
 use Rattle.charts.proofs.Failing.{all_at}
 use Rattle.charts.proofs.Fitting.{fitted}
+use Rattle.charts.proofs.InOrder.{Passed}
 
 -- what a row that fits has
 pub record Between (states letters : ℕ) (r : Row) : Type 0 where
@@ -42,27 +36,18 @@ between d l r e =
 pub row_between : (v : View) → fits v ≡ true → (e : ℕ) → e < length v.arc_rows → Between v.states v.letters (arc_row v e)
 row_between v f e h = between _ _ _ (all_at _ v.arc_rows e (row_of []) h (fitted v f).arc_rows)
 
--- the automaton of a chart is sound, in every kind
-pub sound : {W : Type 0} (weighs : (minutes grade parts : ℕ) → W) (c : Chart) → Sound (automaton weighs (view c))
-sound weighs c = record {
-  from_below = λ e h. (row_between (view c) c.held.4 e h).from_below;
-  to_below = λ e h. (row_between (view c) c.held.4 e h).to_below;
-  letter_within = λ e h. (row_between (view c) c.held.4 e h).letter_within;
+-- the automaton of a view that fits is sound, in every kind
+pub sound : {W : Type 0} (weighs : (minutes grade parts : ℕ) → W) (v : View) → fits v ≡ true → Sound (automaton weighs v)
+sound weighs v f = record {
+  from_below = λ e h. (row_between v f e h).from_below;
+  to_below = λ e h. (row_between v f e h).to_below;
+  letter_within = λ e h. (row_between v f e h).letter_within;
 }
 
--- the arc that is answered for a number has the row of that number
-pub arc_answered : (v : View) (e : ℕ) (arc : Arc) → e < length v.arc_rows → option_map row_of_arc (Some arc) ≡ slice_get v.arc_rows e →
-    row_of_arc arc ≡ arc_row v e
-arc_answered v e arc h is = let found = is ∙ slice_get-get_or v.arc_rows e (row_of []) h in cc
+-- the next of a view's rows is that of its number
+pub row_passed : (v : View) (n : ℕ) {r : Row} {rest : List Row} → Passed v.arc_rows n r rest → r ≡ arc_row v n
+row_passed v n p = sym (p.here (row_of []))
 
--- so it stands between states, as the row does
-pub arc_between : (v : View) → fits v ≡ true → (e : ℕ) (arc : Arc) → e < length v.arc_rows →
-    option_map row_of_arc (Some arc) ≡ slice_get v.arc_rows e → Between v.states v.letters (row_of_arc arc)
-arc_between v f e arc h is = rw (arc_answered v e arc h is) (row_between v f e h)
-
--- and there is one
-pub arc_found : (v : View) (e : ℕ) → e < length v.arc_rows → option_map row_of_arc None ≡ slice_get v.arc_rows e → ⊥
-arc_found v e h is =
-    let found = is ∙ slice_get-get_or v.arc_rows e (row_of []) h in
-    let z : ◌≡◌ {A = ℕ} 0 1 = cc in
-    omega arith
+-- so it stands between states
+pub passed_between : (v : View) → fits v ≡ true → (n : ℕ) {r : Row} {rest : List Row} → Passed v.arc_rows n r rest → Between v.states v.letters r
+passed_between v f n p = rw (row_passed v n p) (row_between v f n p.below)

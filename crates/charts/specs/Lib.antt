@@ -2,8 +2,8 @@ pub mod Refusals
 pub mod Views
 pub mod Held
 pub mod Arcs
+pub mod Texts
 pub mod Format
 pub mod Tabled
-pub mod Charts
 pub mod Sums
 pub mod Automaton

@@ -1,21 +1,27 @@
 // An arc of a chart, and the test of its row.
+mod in_order;
+mod printing;
+
 ghost use Rattle.std.specs.Prelude.{◌≡◌, if◌then◌else◌, Some, None};
 ghost use Rattle.std.specs.Option.{option_map};
 ghost use Rattle.charts.specs.Views.{row_of, arc_row_fits};
 ghost use Rattle.charts.specs.Arcs.{row_of_arc};
 
+pub use in_order::Arcs;
+use std::num::NonZeroU8;
 use weights::arcs::ArcRecord;
 
-// An arc leads from one state to another, spells a letter, or none where that is 0, and is weighed from its record.
-#[derive(Clone, Copy)]
+// An arc leads from one state to another, spells a letter or is silent, and is weighed from its record.
+#[derive(Clone, Copy, PartialEq, Eq, Debug)]
 pub struct Arc {
     pub from: u8,
     pub to: u8,
-    pub letter: u8,
+    pub letter: Option<NonZeroU8>,
     pub record: ArcRecord,
 }
 
-// The arc of a row's twelve bytes, or none where a chart of so many states and letters can have no such row.
+// The arc of a row's twelve bytes, or none where a chart of so many states and letters can have no such row. The two numbers
+// are a length and a field of whoever asks: a struct for them would be made anew at each call.
 pub(crate) fn read_arc(states: usize, letters: u8, row: &[u8; 12]) -> Option<Arc>
     ensures { option_map row_of_arc result ≡ (if arc_row_fits states letters (row_of row.now) then Some (row_of row.now) else None) }
 {
@@ -42,7 +48,7 @@ pub(crate) fn read_arc(states: usize, letters: u8, row: &[u8; 12]) -> Option<Arc
         Some(Arc {
             from,
             to,
-            letter,
+            letter: NonZeroU8::new(letter),
             record,
         })
     } else {

@@ -5,6 +5,6 @@ pub mod arcs;
 pub mod reading;
 pub mod refusals;
 
-pub use arcs::Arc;
+pub use arcs::{Arc, Arcs};
 pub use reading::Chart;
 pub use refusals::Refusal;

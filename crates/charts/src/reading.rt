@@ -4,15 +4,24 @@ mod header;
 mod questions;
 mod tables;
 
-ghost use Rattle.charts.specs.Held.{Held};
+ghost use Rattle.std.specs.Prelude.{◌≡◌, true};
+ghost use Rattle.charts.specs.Views.{View};
+ghost use Rattle.charts.specs.Held.{view_of, fits};
 
-// The rows of a file that was accepted: a byte for each state, and twelve for each arc.
+use std::marker::Model;
+
+// The rows of a file that was accepted, as lent: a byte for each state, and twelve for each arc.
 #[derive(Drop)]
-pub struct Chart {
-    states: usize,
+pub struct Chart<'a> {
     letters: u8,
-    arcs: usize,
-    marks: [u8; 32],
-    rows: [[u8; 12]; 512],
-    ghost held: { Held states letters arcs marks rows },
+    marks: &'a [u8],
+    rows: &'a [[u8; 12]],
+}
+
+impl<'a> Model for Chart<'a> {
+    ghost Value = { View };
+
+    ghost view = { λ c. view_of c.marks.now c.letters c.rows.now };
+
+    ghost invariant = { λ c. fits (view_of c.marks.now c.letters c.rows.now) ≡ true };
 }

@@ -1,4 +1,6 @@
 // Why a call refuses. Each reason has a number, and a place where one can be named.
+mod printing;
+
 ghost use Rattle.std.specs.Prelude.{◌≡◌};
 ghost use Rattle.charts.specs.Refusals.{number_of, place_of};
 

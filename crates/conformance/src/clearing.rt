@@ -2,12 +2,11 @@
 mod limits;
 
 use crate::files::{EDGES, RING, SAMPLE};
-use crate::memory::{filled, outcome};
+use crate::named::Named;
 use crate::two_totals::TwoTotals;
 use charts::Chart;
 use machines::Machine;
 use machines::clearing::clear;
-use std::alloc::Global;
 use std::process::Abort;
 use std::test::Fail;
 use weights::Weight;
@@ -17,36 +16,39 @@ use weights::minutes::Minutes;
 use weights::parts::Parts;
 use weights::possible::Possible;
 
-// The machine of a chart that has three states and 64 weights at most.
-fn cleared<K: Weight>(
-    rt: &impl Abort,
-    heap: Global,
-    name: &str,
-    chart: &Chart,
-) -> Result<Vec<K>, Fail> {
-    let mut silent = filled(heap, K::zero(), 9)?;
-    let mut scratch = filled(heap, K::zero(), 9)?;
-    let mut table = filled(heap, K::zero(), 64)?;
+// A log of a chart, and the name of its case.
+#[derive(Drop)]
+struct Question<'a> {
+    name: &'a str,
+    chart: &'a Chart<'a>,
+    log: &'a [u8],
+}
+
+// The table of a chart's machine, which has three states and 64 weights at most.
+fn cleared<K: Named>(rt: &(impl Abort + AllocGlobal), question: &Question) -> Result<Vec<K>, Fail> {
+    let kind = K::NAME;
+    let Question { name, chart, .. } = *question;
+    let mut silent = vec![in rt.alloc(); K::ZERO; 9]?;
+    let mut scratch = vec![in rt.alloc(); K::ZERO; 9]?;
+    let mut table = vec![in rt.alloc(); K::ZERO; 64]?;
     let answer = clear(
         chart,
         silent.as_mut_slice(),
         scratch.as_mut_slice(),
         table.as_mut_slice(),
     );
-    assert_eq!(rt; outcome(answer), 0, "{name}");
+    assert_eq!(rt; answer, Ok(()), "{kind}, {name}");
     Ok(table)
 }
 
 // What the machine tells from a state on: the block of each letter, and then the ends; `walked` is the weight before.
 fn told<K: Weight>(machine: &Machine<K>, walked: K, here: usize, log: &[u8]) -> K {
     let Some((letter, left)) = log.split_first() else {
-        let end = machine.ends().get(here).copied().unwrap_or(K::zero());
+        let end = machine.ends().get(here).copied().unwrap_or(K::ZERO);
         return walked.times(end);
     };
-    let before = here.saturating_mul(machine.states());
-    let row = machine.block(*letter).iter().skip(before);
-    let mut total = K::zero();
-    for (next, step) in row.take(machine.states()).enumerate() {
+    let mut total = K::ZERO;
+    for (next, step) in machine.row(*letter, here).iter().enumerate() {
         let walked = walked.times(*step);
         total = total.plus(told(machine, walked, next, left));
     }
@@ -65,39 +67,34 @@ static ANSWERS: [Answer; 4] = [
     Answer("1 2 1 2", &[1, 2, 1, 2], 63, 70, true, 21, 65_535),
 ];
 
-fn check_told<K: Weight>(
-    rt: &impl Abort,
-    heap: Global,
-    name: &str,
-    chart: &Chart,
-    log: &[u8],
+fn check_told<K: Named>(
+    rt: &(impl Abort + AllocGlobal),
+    question: &Question,
     expected: K,
 ) -> Result<(), Fail> {
-    let table = cleared::<K>(rt, heap, name, chart)?;
-    let Ok(machine) = Machine::new(chart.states(), chart.letters(), table.as_slice()) else {
-        return Err(Fail::new(format_args!("{name}: no machine")));
-    };
-    let mut total = K::zero();
-    for (state, start) in machine.starts().iter().enumerate() {
-        total = total.plus(told(&machine, *start, state, log));
-    }
-    assert!(rt; total.same(expected), "{name}");
+    let kind = K::NAME;
+    let Question { name, chart, log } = *question;
+    let table = cleared::<K>(rt, question)?;
+    let machine = Machine::new(chart.states(), chart.letters(), table.as_slice()).expect(rt, name);
+    let starts = machine.starts().iter().enumerate();
+    let total = starts.fold(K::ZERO, |total, (state, start)| {
+        total.plus(told(&machine, *start, state, log))
+    });
+    assert!(rt; total.same(expected), "{kind}, {name}");
     Ok(())
 }
 
 #[test]
 fn sample_is_told(rt: HostRuntime) -> Result<(), Fail> {
-    let heap = rt.alloc();
-    let Ok(chart) = Chart::read(SAMPLE) else {
-        return Err(Fail::new("refused"));
-    };
+    let chart = &Chart::read(SAMPLE)?;
     for answer in &ANSWERS {
         let Answer(name, log, minutes, grade, possible, parts, count) = *answer;
-        check_told(&rt, heap, name, &chart, log, Minutes(minutes))?;
-        check_told(&rt, heap, name, &chart, log, Grade(grade))?;
-        check_told(&rt, heap, name, &chart, log, Possible(possible))?;
-        check_told(&rt, heap, name, &chart, log, Parts(parts))?;
-        check_told(&rt, heap, name, &chart, log, Count(count))?;
+        let question = Question { name, chart, log };
+        check_told(&rt, &question, Minutes(minutes))?;
+        check_told(&rt, &question, Grade(grade))?;
+        check_told(&rt, &question, Possible(possible))?;
+        check_told(&rt, &question, Parts(parts))?;
+        check_told(&rt, &question, Count(count))?;
     }
     Ok(())
 }
@@ -108,26 +105,24 @@ fn list_paths<K: Weight>(chart: &Chart, walked: K, here: usize, log: &[u8], arcs
     let mut total = if log.is_empty() && chart.is_end(here) {
         walked
     } else {
-        K::zero()
+        K::ZERO
     };
     if arcs == 0 {
         return total;
     }
-    for number in 0..chart.arcs() {
-        let Some(arc) = chart.arc(number) else {
-            continue;
-        };
+    let arcs_from_here = chart
+        .arcs_in_order()
+        .filter(|arc| usize::from(arc.from) == here);
+    for arc in arcs_from_here {
         // A silent arc leaves the whole log, and one with a letter has to spell the first.
-        let left = match log.split_first() {
-            _ if arc.letter == 0 => log,
-            Some((first, left)) if arc.letter == *first => left,
+        let left = match (arc.letter, log.split_first()) {
+            (None, _) => log,
+            (Some(letter), Some((first, left))) if letter.get() == *first => left,
             _ => continue,
         };
-        if usize::from(arc.from) == here {
-            let walked = walked.times(K::of_arc(arc.record));
-            let longer = list_paths(chart, walked, usize::from(arc.to), left, arcs - 1);
-            total = total.plus(longer);
-        }
+        let walked = walked.times(K::of_arc(arc.record));
+        let longer = list_paths(chart, walked, usize::from(arc.to), left, arcs - 1);
+        total = total.plus(longer);
     }
     total
 }
@@ -143,41 +138,40 @@ static LISTED: [Listed; 3] = [
 ];
 
 // From each state on, the machine tells what the paths do.
-fn check_states<K: Weight>(
-    rt: &impl Abort,
-    heap: Global,
-    kind: &str,
-    name: &str,
-    chart: &Chart,
-    log: &[u8],
+fn check_states<K: Named>(
+    rt: &(impl Abort + AllocGlobal),
+    question: &Question,
 ) -> Result<(), Fail> {
-    let table = cleared::<K>(rt, heap, name, chart)?;
-    let Ok(machine) = Machine::new(chart.states(), chart.letters(), table.as_slice()) else {
-        return Err(Fail::new(format_args!("{kind}, {name}: no machine")));
-    };
+    let kind = K::NAME;
+    let Question { name, chart, log } = *question;
+    let table = cleared::<K>(rt, question)?;
+    let machine = Machine::new(chart.states(), chart.letters(), table.as_slice()).expect(rt, name);
     for state in 0..chart.states() {
-        let weight = told(&machine, K::one(), state, log);
+        let weight = told(&machine, K::ONE, state, log);
         // Longer paths change nothing.
-        let paths = list_paths(chart, K::one(), state, log, 10);
+        let paths = list_paths(chart, K::ONE, state, log, 10);
         assert!(rt; weight.same(paths), "{kind}, {name}, from state {state}");
     }
     Ok(())
 }
 
-fn check_listed<K: Weight>(
-    rt: &impl Abort,
-    heap: Global,
-    kind: &str,
-    cases: &[Listed],
+fn check_logs<'a, K: Named>(
+    rt: &(impl Abort + AllocGlobal),
+    name: &'a str,
+    chart: &'a Chart<'a>,
+    logs: &'a [&'a [u8]],
 ) -> Result<(), Fail> {
+    for log in logs {
+        check_states::<K>(rt, &Question { name, chart, log })?;
+    }
+    Ok(())
+}
+
+fn check_listed<K: Named>(rt: &(impl Abort + AllocGlobal), cases: &[Listed]) -> Result<(), Fail> {
     for case in cases {
         let Listed(name, file, logs) = *case;
-        let Ok(chart) = Chart::read(file) else {
-            return Err(Fail::new(format_args!("{kind}, {name}: refused")));
-        };
-        for log in logs {
-            check_states::<K>(rt, heap, kind, name, &chart, log)?;
-        }
+        let chart = Chart::read(file).expect(rt, name);
+        check_logs::<K>(rt, name, &chart, logs)?;
     }
     Ok(())
 }
@@ -185,11 +179,10 @@ fn check_listed<K: Weight>(
 // In counts only the first settles soon.
 #[test]
 fn tells_like_the_paths(rt: HostRuntime) -> Result<(), Fail> {
-    let heap = rt.alloc();
-    check_listed::<Minutes>(&rt, heap, "minutes", &LISTED)?;
-    check_listed::<Grade>(&rt, heap, "grade", &LISTED)?;
-    check_listed::<Possible>(&rt, heap, "possible", &LISTED)?;
-    check_listed::<Parts>(&rt, heap, "parts", &LISTED)?;
-    check_listed::<TwoTotals>(&rt, heap, "two totals", &LISTED)?;
-    check_listed::<Count>(&rt, heap, "count", &LISTED[0..1])
+    check_listed::<Minutes>(&rt, &LISTED)?;
+    check_listed::<Grade>(&rt, &LISTED)?;
+    check_listed::<Possible>(&rt, &LISTED)?;
+    check_listed::<Parts>(&rt, &LISTED)?;
+    check_listed::<TwoTotals>(&rt, &LISTED)?;
+    check_listed::<Count>(&rt, &LISTED[0..1])
 }

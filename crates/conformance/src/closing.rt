@@ -1,10 +1,9 @@
 // Closing a table, against a list of its walks.
 mod limits;
 
-use crate::memory::{filled, outcome};
+use crate::named::Named;
 use crate::two_totals::TwoTotals;
 use machines::closure::close_table;
-use std::alloc::Global;
 use std::process::Abort;
 use std::test::Fail;
 use weights::Weight;
@@ -99,102 +98,86 @@ static CASES: [Case; 9] = [
     ),
 ];
 
-// The table of the steps, row by row.
-fn table_of<K: Weight>(heap: Global, states: usize, steps: &[Step]) -> Result<Vec<K>, Fail> {
-    let mut table = filled(heap, K::zero(), states.saturating_mul(states))?;
-    for step in steps {
-        let Step(from, to, minutes, grade, parts, times) = *step;
-        let Some(record) = ArcRecord::new(minutes, grade, parts) else {
-            return Err(Fail::new("no record"));
-        };
-        let place = from.saturating_mul(states).saturating_add(to);
-        let Some(entry) = table.get_mut(place) else {
-            return Err(Fail::new("no place"));
-        };
-        for _ in 0..times {
-            *entry = entry.plus(K::of_arc(record));
-        }
-    }
-    Ok(table)
+// The weights of the steps from each of so many states to each, row by row.
+#[derive(Drop)]
+struct Table<K> {
+    states: usize,
+    weights: Vec<K>,
 }
 
-// The state that a walk begins in, and the state that it ends in.
-type Ends = (usize, usize);
+fn table_of<K: Weight>(rt: &(impl Abort + AllocGlobal), case: &Case) -> Result<Table<K>, Fail> {
+    let Case(name, states, steps) = *case;
+    let mut weights = vec![in rt.alloc(); K::ZERO; states.saturating_mul(states)]?;
+    for step in steps {
+        let Step(from, to, minutes, grade, parts, times) = *step;
+        let weight = K::of_arc(ArcRecord::new(minutes, grade, parts).expect(rt, name));
+        // By place: `chunks_exact_mut` and `nth` would ask first that there is a state.
+        let place = from.saturating_mul(states).saturating_add(to);
+        let entry = weights.get_mut(place).expect(rt, name);
+        *entry = (0..times).fold(*entry, |total, _| total.plus(weight));
+    }
+    Ok(Table { states, weights })
+}
 
 // The join of the weights of all walks that go on in at most so many steps; `walked` is the weight of the steps before.
-fn list_walks<K: Weight>(states: usize, table: &[K], walked: K, ends: Ends, steps: u8) -> K {
-    let (here, to) = ends;
-    let mut total = if here == to { walked } else { K::zero() };
+fn list_walks<K: Weight>(table: &Table<K>, walked: K, here: usize, to: usize, steps: u8) -> K {
+    let mut total = if here == to { walked } else { K::ZERO };
     if steps == 0 {
         return total;
     }
-    let row = table.iter().skip(here.saturating_mul(states)).take(states);
+    // By place: `chunks_exact` would ask first that there is a state.
+    let before = here.saturating_mul(table.states);
+    let row = table.weights.iter().skip(before).take(table.states);
     for (next, step) in row.enumerate() {
-        let walked = walked.times(*step);
-        let longer = list_walks(states, table, walked, (next, to), steps - 1);
+        let longer = list_walks(table, walked.times(*step), next, to, steps - 1);
         total = total.plus(longer);
     }
     total
 }
 
-fn check_table<K: Weight>(
-    rt: &impl Abort,
-    heap: Global,
-    kind: &str,
-    name: &str,
-    states: usize,
-    table: &[K],
-) -> Result<(), Fail> {
-    let mut closed = Vec::from_slice(heap, table)?;
-    let mut scratch = Vec::from_slice(heap, table)?;
+fn check_case<K: Named>(rt: &(impl Abort + AllocGlobal), case: &Case) -> Result<(), Fail> {
+    let kind = K::NAME;
+    let Case(name, states, _) = *case;
+    let table = table_of::<K>(rt, case)?;
+    let mut closed = table.weights.clone()?;
+    let mut scratch = table.weights.clone()?;
     let answer = close_table(states, closed.as_mut_slice(), scratch.as_mut_slice());
-    assert_eq!(rt; outcome(answer), 0, "{kind}, {name}");
+    assert_eq!(rt; answer, Ok(()), "{kind}, {name}");
     assert!(rt; states > 0, "{kind}, {name}");
     for (place, entry) in closed.iter().enumerate() {
-        let ends = (place / states, place % states);
         // Longer walks change nothing in any of the tables.
-        let walks = list_walks(states, table, K::one(), ends, 5);
+        let walks = list_walks(&table, K::ONE, place / states, place % states, 5);
         assert!(rt; entry.same(walks), "{kind}, {name}, at {place}");
     }
     Ok(())
 }
 
-fn check_cases<K: Weight>(
-    rt: &impl Abort,
-    heap: Global,
-    kind: &str,
-    cases: &[Case],
-) -> Result<(), Fail> {
-    for case in cases {
-        let Case(name, states, steps) = *case;
-        let table = table_of::<K>(heap, states, steps)?;
-        check_table(rt, heap, kind, name, states, table.as_slice())?;
-    }
-    Ok(())
+fn check_cases<K: Named>(rt: &(impl Abort + AllocGlobal), cases: &[Case]) -> Result<(), Fail> {
+    cases.iter().try_for_each(|case| check_case::<K>(rt, case))
 }
 
 // In the first four kinds a ring changes nothing.
 #[test]
 fn closes_like_the_walks(rt: HostRuntime) -> Result<(), Fail> {
-    let heap = rt.alloc();
-    check_cases::<Minutes>(&rt, heap, "minutes", &CASES)?;
-    check_cases::<Grade>(&rt, heap, "grade", &CASES)?;
-    check_cases::<Possible>(&rt, heap, "possible", &CASES)?;
-    check_cases::<Parts>(&rt, heap, "parts", &CASES)?;
-    check_cases::<TwoTotals>(&rt, heap, "two totals", &CASES[0..7])?;
-    check_cases::<Count>(&rt, heap, "count", &CASES[0..4])
+    check_cases::<Minutes>(&rt, &CASES)?;
+    check_cases::<Grade>(&rt, &CASES)?;
+    check_cases::<Possible>(&rt, &CASES)?;
+    check_cases::<Parts>(&rt, &CASES)?;
+    check_cases::<TwoTotals>(&rt, &CASES[0..7])?;
+    check_cases::<Count>(&rt, &CASES[0..4])
 }
 
 // From 1 by way of 0, which has a marked ring, to 2: there is one way past the ring, and one way round it. A closing
 // that puts the pivot's new row in place first, and goes on with that one, chains the ring's loop twice, and finds two.
 #[test]
 fn closes_from_the_old_row(rt: HostRuntime) {
-    let mut table = [<TwoTotals as Weight>::zero(); 9];
+    let mut table = [<TwoTotals as Weight>::ZERO; 9];
     table[0].marked = Count(1);
     table[2].plain = Count(1);
     table[3].plain = Count(1);
     let mut scratch = table;
-    assert_eq!(rt; outcome(close_table(3, &mut table, &mut scratch)), 0);
+    let answer = close_table(3, &mut table, &mut scratch);
+    assert_eq!(rt; answer, Ok(()));
     let entry = table[5];
     assert_eq!(rt; (entry.plain.0, entry.marked.0), (1, 1));
 }

@@ -1,9 +1,8 @@
 // Chart files for the tests: two that are written out, and those that are in order but for what a case changes.
-use std::alloc::Global;
-use std::process::Abort;
 use std::test::Fail;
 
-// The header's six numbers: states, letters, arcs, where the state rows and the arc rows begin, and the total.
+// The header's six numbers: states, letters, arcs, where the state rows and the arc rows begin, and the total. With names to
+// its fields each case of a table would take several lines.
 pub type Header = [u16; 6];
 
 // A place in a file, and the byte to put there.
@@ -53,49 +52,41 @@ pub const RING: &[u8] = b"\
     \x02\x01\x01\x00\x00\x09\x00\x46\x00\x00\x00\x00\
     ";
 
-// Writes a byte, unless the file ends before it: a file may be too short for its header and its tables.
-fn put(file: &mut Vec<u8>, place: usize, byte: u8) {
-    if let Some(old) = file.get_mut(place) {
-        *old = byte;
-    }
-}
-
-fn put_header(file: &mut Vec<u8>, header: Header) {
-    let mut place = 0usize;
-    for number in header {
-        let [high, low] = number.to_be_bytes();
-        put(file, place, high);
-        put(file, place.saturating_add(1), low);
-        place = place.saturating_add(2);
+// The header's bytes, or as many as there are places for: a file may be too short for them, and for its tables.
+fn put_header(file: &mut [u8], header: Header) {
+    let bytes = header.into_iter().flat_map(|number| number.to_be_bytes());
+    for (place, byte) in file.iter_mut().zip(bytes) {
+        *place = byte;
     }
 }
 
 // Of zeros alone an arc row lacks only a grade: 1 will do.
-fn put_grades(file: &mut Vec<u8>, header: Header) {
+fn put_grades(file: &mut [u8], header: Header) {
     let [_, _, arcs, _, rows, _] = header;
-    let mut place = usize::from(rows).saturating_add(7);
-    for _ in 0..arcs {
-        put(file, place, 1);
-        place = place.saturating_add(12);
+    let first = usize::from(rows) + 7;
+    let grades = file.iter_mut().skip(first).step_by(12);
+    for grade in grades.take(usize::from(arcs)) {
+        *grade = 1;
     }
 }
 
 // A file of this length under this header, whose rows are good where the patches leave them so.
 pub(crate) fn file_of(
-    rt: &impl Abort,
-    heap: Global,
+    rt: &impl AllocGlobal,
     name: &str,
     header: Header,
     length: usize,
     patches: &[Patch],
 ) -> Result<Vec<u8>, Fail> {
-    let mut file = vec![in heap; 0; length]?;
-    put_header(&mut file, header);
-    put_grades(&mut file, header);
+    let mut file = vec![in rt.alloc(); 0; length]?;
+    put_header(file.as_mut_slice(), header);
+    put_grades(file.as_mut_slice(), header);
     for (place, byte) in patches {
         // A patch that is lost would leave a case that tests nothing.
-        assert!(rt; *place < length, "{name}");
-        put(&mut file, *place, *byte);
+        let Some(old) = file.get_mut(*place) else {
+            return Err(Fail::new(format_args!("{name}: no byte at {place}")));
+        };
+        *old = *byte;
     }
     Ok(file)
 }

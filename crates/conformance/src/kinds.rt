@@ -3,7 +3,6 @@ mod ranked;
 mod unranked;
 
 use std::process::Abort;
-use std::test::Fail;
 use weights::arcs::ArcRecord;
 use weights::{Commutative, Ranked, Weight};
 
@@ -53,12 +52,10 @@ fn check_same<W: Weight>(rt: &impl Abort, pairs: &[Same<W>]) {
     }
 }
 
-fn check_kind<W: Commutative>(rt: &impl Abort, kind: &Kind<W>) -> Result<(), Fail> {
-    let Some(arc) = ArcRecord::new(7, 60, 9) else {
-        return Err(Fail::new("no record"));
-    };
-    let zero = W::zero().same(kind.zero);
-    let one = W::one().same(kind.one);
+fn check_kind<W: Commutative>(rt: &impl Abort, kind: &Kind<W>) {
+    let arc = ArcRecord::new(7, 60, 9).expect(rt, "no record");
+    let zero = W::ZERO.same(kind.zero);
+    let one = W::ONE.same(kind.one);
     let weighs = W::of_arc(arc).same(kind.arc);
     let answers = (zero, one, weighs, W::commutes());
     assert_eq!(rt;
@@ -69,10 +66,10 @@ fn check_kind<W: Commutative>(rt: &impl Abort, kind: &Kind<W>) -> Result<(), Fai
     check_pairs(rt, kind.pairs);
     check_loops(rt, kind.loops);
     check_same(rt, kind.same);
-    Ok(())
 }
 
-fn check_ranks<W: Ranked>(rt: &impl Abort, ranks: &[Rank<W>]) {
+fn check_ranked<W: Commutative + Ranked>(rt: &impl Abort, kind: &Kind<W>, ranks: &[Rank<W>]) {
+    check_kind(rt, kind);
     for pair in ranks {
         let Rank(name, left, right, forth, back) = *pair;
         let kept = (left.keep(right), right.keep(left));

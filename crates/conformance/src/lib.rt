@@ -15,6 +15,8 @@ mod kinds;
 #[cfg(test)]
 mod memory;
 #[cfg(test)]
+mod named;
+#[cfg(test)]
 mod pairs;
 #[cfg(test)]
 mod printing;

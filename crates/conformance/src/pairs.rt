@@ -1,11 +1,11 @@
 // Crossing two machines: every weight is the first machine's and then the second's.
 mod limits;
 
-use crate::memory::{filled, outcome};
+use crate::named::Named;
 use crate::two_totals::TwoTotals;
 use crossing::cross;
 use machines::Machine;
-use std::alloc::Global;
+use std::ops::Range;
 use std::process::Abort;
 use std::test::Fail;
 use weights::Weight;
@@ -17,13 +17,11 @@ use weights::parts::Parts;
 use weights::possible::Possible;
 
 // The weights of arcs of which no two are alike.
-fn numbered<K: Weight>(heap: Global, begin: u16, end: u16) -> Result<Vec<K>, Fail> {
-    let mut weights = Vec::new(heap);
-    for number in begin..end {
-        let Some(record) = ArcRecord::new(number, number % 100 + 1, u32::from(number)) else {
-            return Err(Fail::new("no record"));
-        };
-        weights.push(K::of_arc(record))?;
+fn numbered<K: Weight>(rt: &impl AllocGlobal, numbers: Range<u16>) -> Result<Vec<K>, Fail> {
+    let mut weights = Vec::new(rt.alloc());
+    for number in numbers {
+        let record = ArcRecord::new(number, number % 100 + 1, u32::from(number));
+        weights.push(K::of_arc(record.ok_or("no record")?))?;
     }
     Ok(weights)
 }
@@ -43,44 +41,44 @@ fn places(place: usize) -> (usize, usize) {
     (first, 4 + letter * 4 + from % 2 * 2 + to % 2)
 }
 
-fn check_crossed<K: Weight>(
-    rt: &impl Abort,
-    kind: &str,
-    first: &[K],
-    second: &[K],
-    crossed: &[K],
-) -> Result<(), Fail> {
+fn check_crossed<K: Named>(rt: &impl Abort, first: &[K], second: &[K], crossed: &[K]) {
+    let kind = K::NAME;
     for (place, weight) in crossed.iter().enumerate() {
         let (before, behind) = places(place);
-        let before = first.get(before).copied().ok_or("no weight")?;
-        let behind = second.get(behind).copied().ok_or("no weight")?;
-        assert!(rt; weight.same(before.times(behind)), "{kind}, at {place}");
+        let before = first.get(before).expect(rt, kind);
+        let behind = second.get(behind).expect(rt, kind);
+        assert!(rt; weight.same(before.times(*behind)), "{kind}, at {place}");
     }
-    Ok(())
 }
 
-fn check_kind<K: Weight>(rt: &impl Abort, heap: Global, kind: &str) -> Result<(), Fail> {
-    let one = numbered::<K>(heap, 0, 24)?;
-    let other = numbered::<K>(heap, 40, 52)?;
-    let mut table = filled(heap, K::zero(), 84)?;
-    let Ok(first) = Machine::new(3, 2, one.as_slice()) else {
-        return Err(Fail::new(format_args!("{kind}: no first")));
-    };
-    let Ok(second) = Machine::new(2, 2, other.as_slice()) else {
-        return Err(Fail::new(format_args!("{kind}: no second")));
-    };
-    let answer = cross(&first, &second, table.as_mut_slice());
-    assert_eq!(rt; outcome(answer), 0, "{kind}");
-    check_crossed(rt, kind, one.as_slice(), other.as_slice(), table.as_slice())
+// The crossing of a machine of three states and one of two, both with two letters.
+fn crossed<K: Named>(
+    rt: &(impl Abort + AllocGlobal),
+    one: &[K],
+    other: &[K],
+) -> Result<Vec<K>, Fail> {
+    let kind = K::NAME;
+    let first = Machine::new(3, 2, one).expect(rt, kind);
+    let second = Machine::new(2, 2, other).expect(rt, kind);
+    let mut table = vec![in rt.alloc(); K::ZERO; 84]?;
+    cross(&first, &second, table.as_mut_slice()).expect(rt, kind);
+    Ok(table)
+}
+
+fn check_kind<K: Named>(rt: &(impl Abort + AllocGlobal)) -> Result<(), Fail> {
+    let one = numbered::<K>(rt, 0..24)?;
+    let other = numbered::<K>(rt, 40..52)?;
+    let table = crossed(rt, one.as_slice(), other.as_slice())?;
+    check_crossed(rt, one.as_slice(), other.as_slice(), table.as_slice());
+    Ok(())
 }
 
 #[test]
 fn crosses_every_weight(rt: HostRuntime) -> Result<(), Fail> {
-    let heap = rt.alloc();
-    check_kind::<Minutes>(&rt, heap, "minutes")?;
-    check_kind::<Grade>(&rt, heap, "grade")?;
-    check_kind::<Possible>(&rt, heap, "possible")?;
-    check_kind::<Parts>(&rt, heap, "parts")?;
-    check_kind::<Count>(&rt, heap, "count")?;
-    check_kind::<TwoTotals>(&rt, heap, "two totals")
+    check_kind::<Minutes>(&rt)?;
+    check_kind::<Grade>(&rt)?;
+    check_kind::<Possible>(&rt)?;
+    check_kind::<Parts>(&rt)?;
+    check_kind::<Count>(&rt)?;
+    check_kind::<TwoTotals>(&rt)
 }

@@ -3,7 +3,6 @@ use crate::files::{EDGES, Header, ONE_ARC, Patch, SAMPLE, SMALL, TOO_LONG, file_
 use charts::Refusal;
 use reports::lines::refusal_line;
 use reports::tables::chart_report;
-use std::alloc::Global;
 use std::process::Abort;
 use std::test::Fail;
 
@@ -76,46 +75,41 @@ static REFUSALS: [Line; 14] = [
 ];
 
 fn check_report(
-    rt: &impl Abort,
-    heap: Global,
+    rt: &(impl Abort + AllocGlobal),
     name: &str,
     file: &[u8],
     text: &str,
 ) -> Result<(), Fail> {
-    let report = chart_report(heap, file)?;
+    let report = chart_report(rt.alloc(), file)?;
     assert_eq!(rt; report.as_str(), text, "{name}");
     Ok(())
 }
 
-fn check_refused(rt: &impl Abort, heap: Global, case: &Refused) -> Result<(), Fail> {
+fn check_refused(rt: &(impl Abort + AllocGlobal), case: &Refused) -> Result<(), Fail> {
     let Refused(name, header, length, patches, text) = *case;
-    let file = file_of(rt, heap, name, header, length, patches)?;
-    check_report(rt, heap, name, file.as_slice(), text)
+    let file = file_of(rt, name, header, length, patches)?;
+    check_report(rt, name, file.as_slice(), text)
 }
 
 #[test]
 fn chart_reports(rt: HostRuntime) -> Result<(), Fail> {
     for case in &REPORTS {
         let Report(name, file, text) = *case;
-        check_report(&rt, rt.alloc(), name, file, text)?;
+        check_report(&rt, name, file, text)?;
     }
     Ok(())
 }
 
 #[test]
 fn refused_files(rt: HostRuntime) -> Result<(), Fail> {
-    for case in &REFUSED {
-        check_refused(&rt, rt.alloc(), case)?;
-    }
-    Ok(())
+    REFUSED.iter().try_for_each(|case| check_refused(&rt, case))
 }
 
 #[test]
 fn refusal_lines(rt: HostRuntime) -> Result<(), Fail> {
-    let heap = rt.alloc();
     for case in &REFUSALS {
         let Line(name, refusal, text) = *case;
-        let line = refusal_line(heap, refusal)?;
+        let line = refusal_line(rt.alloc(), refusal)?;
         assert_eq!(rt; line.as_str(), text, "{name}");
     }
     Ok(())

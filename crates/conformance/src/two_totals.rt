@@ -1,6 +1,7 @@
 // A kind for tests, with two totals: how many ways have no marked arc, and how many have exactly one. Ways with more
 // are dropped. In the five kinds a loop chained with itself is the same loop, so that a closing which chains one twice
 // does not show. Here it does: of two loops in a row, the first or the second may have the marked arc.
+ghost use Rattle.std.specs.Prelude.{refl};
 ghost use Rattle.weights.specs.Capped.{Upto};
 ghost use Rattle.weights.specs.Count.{most_counted};
 ghost use Rattle.conformance.specs.Dual.{Totals};
@@ -29,19 +30,23 @@ impl Weight for TwoTotals {
 
     ghost laws = { dual_laws count_laws };
 
-    fn zero() -> TwoTotals {
-        TwoTotals {
-            plain: Count(0),
-            marked: Count(0),
-        }
-    }
+    ghost ZERO = { record { plain = record { 0 = 0 }; marked = record { 0 = 0 } } };
 
-    fn one() -> TwoTotals {
-        TwoTotals {
-            plain: Count(1),
-            marked: Count(0),
-        }
-    }
+    const ZERO: TwoTotals = TwoTotals {
+        plain: Count(0),
+        marked: Count(0),
+    };
+
+    ghost ONE = { record { plain = record { 0 = 1 }; marked = record { 0 = 0 } } };
+
+    const ONE: TwoTotals = TwoTotals {
+        plain: Count(1),
+        marked: Count(0),
+    };
+
+    ghost zero_means = { refl };
+
+    ghost one_means = { refl };
 
     fn plus(self, other: TwoTotals) -> TwoTotals {
         TwoTotals {
@@ -83,6 +88,7 @@ impl Weight for TwoTotals {
         }
     }
 
+    // Not `==`: what one weight is, the kind below says.
     fn same(self, other: TwoTotals) -> bool {
         self.plain.same(other.plain) && self.marked.same(other.marked)
     }

@@ -1,16 +1,15 @@
 -- The numbers of pairs: p * n + q for p below m and q below n.
-use Rattle.std.proofs.Common.{◌≡◌, ℕ, zero, suc, ◌+◌, ◌-◌, ◌*◌, ◌/◌, ◌%◌, ◌<◌, ◌≤◌, cond, ◌&&◌, leb, List, [], length, take, drop, sym, ap, ◌∙◌, ap₂, mul-zero, arith, length-drop, length-take-le}
-use lib.Arith.{digits_div, digits_mod}
+use Rattle.std.proofs.Common.{◌≡◌, ℕ, zero, suc, ◌+◌, ◌-◌, ◌*◌, ◌/◌, ◌%◌, ◌<◌, ◌≤◌, List, length, take, drop, sym, ap, ◌∙◌, ap₂, mul-zero, mul-le-mul_right, arith}
+use native.Mathlib.Nat.{add-sub_cancel_left}
+use lib.Arith.{digits_div, digits_mod, digits_lt}
 use borrow.Rule.Slice.PartMut.{put_mid}
 use Rattle.std.proofs.lemmas.Nat.{div-add-mod', div_below, mod_below}
-use Rattle.std.proofs.lemmas.Bool.{le-leb, and_from, cond-true}
 use Rattle.weights.specs.Semiring.{Ops}
 use Rattle.machines.specs.Tables.{weight_at, table_of, Entries}
 use Rattle.machines.specs.Arcs.{block_entry}
 use Rattle.machines.specs.Machine.{Machine, crossed}
-use Rattle.machines.specs.Shapes.{machine_size, block_part}
 use Rattle.crossing.specs.Crossings.{Paired, pair_table}
-use Rattle.machines.proofs.Places.{Upto, RowIs, upto_more, block_fits, weight_part}
+use Rattle.machines.proofs.Places.{Upto, RowIs, upto_more, row_fits, block_fits, length_part, weight_part}
 use Rattle.machines.proofs.Added.{block_put_in, block_put_out}
 
 -- where there is a pair there is a second
@@ -65,23 +64,36 @@ crossed_more o meaning x y a m ws ys some same fits long step done =
     upto_more a done (λ b i k h l. block_put_in o meaning d a m ws ys some same fits long i k h l ∙ step i k h l)
     (λ c z held b i k h l. block_put_out o meaning d a m ws ys some same fits long c i k b z h l ∙ held b i k h l) (λ c z u. tt)
 
--- what a machine answers as the block of a letter that it has
-pub block_answered : {K : Type 0} (d l c : ℕ) (table block : List K) → 1 ≤ c → c ≤ l → block ≡ cond (leb 1 c && leb c l) (block_part d c table) [] →
-    block ≡ block_part d c table
-block_answered d l c table block b u e = e ∙ cond-true _ _ _ (and_from _ _ (le-leb 1 c b) (le-leb c l u))
-
--- its length
-pub block_long : {K : Type 0} (d l c : ℕ) (table : List K) → 1 ≤ c → c ≤ l → machine_size d l ≤ length table → length (block_part d c table) ≡ d * d
-block_long d l c table b u room =
-    let fits = block_fits (d * d) l c b u in
-    length-take-le (d * d) (drop (2 * d + (c - 1) * (d * d)) table) (rw (length-drop (2 * d + (c - 1) * (d * d)) table) (omega arith))
-
 -- where the blocks lie one behind another, each lies in the list; m and n are the numbers of states as the code has them
 pub pair_block_fits : (l a : ℕ) {m n p q room : ℕ} → m ≡ p → n ≡ q → 1 ≤ a → a ≤ l → room ≡ l * (p * q * (p * q)) → (a - 1) * (m * n * (m * n)) + m * n * (m * n) ≤ room
 pair_block_fits l a {m} {n} {p} {q} {room} em en b u e = rw (em, en, e) (block_fits (p * q * (p * q)) l a b u)
+
+-- the block of one more of l letters is done, where the blocks lie one behind another; r, k and f are the numbers of states and the letter as the
+-- code has them
+pub crossed_letter : {K W : Type 0} (o : Ops W) (meaning : K → W) (x y : Machine W) (l a : ℕ) {r k f : ℕ} (ws ys : List K) → r ≡ x.states → k ≡ y.states →
+    f ≡ a → 1 ≤ a → a ≤ l → length ws ≡ l * (x.states * y.states * (x.states * y.states)) →
+    length ys ≡ length (take ((f - 1) * (r * k * (r * k)) + r * k * (r * k) - (f - 1) * (r * k * (r * k))) (drop ((f - 1) * (r * k * (r * k))) ws)) →
+    Entries (x.states * y.states) (table_of o meaning (x.states * y.states) ys) ((crossed o x y).block a) → CrossedBelow o meaning x y ws a →
+    CrossedBelow o meaning x y (put_mid ((f - 1) * (r * k * (r * k))) ((f - 1) * (r * k * (r * k)) + r * k * (r * k) - (f - 1) * (r * k * (r * k))) ws ys) (a + 1)
+crossed_letter o meaning x y l a {r} {k} {f} ws ys er ek ef some within room same step done =
+    let size = x.states * y.states * (x.states * y.states) in
+    let code = r * k * (r * k) in
+    let part = pair_block_fits l f er ek (omega arith) (omega arith) room in
+    let long : length ys ≡ code = same ∙ length_part ((f - 1) * code) code ws part in
+    let states = ap₂ ◌*◌ er ek in
+    let fits : a * size ≤ l * size = mul-le-mul_right size within in
+    rw (er, ek, ef)
+    (crossed_more o meaning x y a ((a - 1) * size + size - (a - 1) * size) ws ys some (add-sub_cancel_left ((a - 1) * size) size) (omega arith)
+    (long ∙ ap₂ ◌*◌ states states) step done)
 
 -- the pairs of two parts, which the code was answered as s and t
 pub paired_parts : {K W : Type 0} (o : Ops W) (meaning : K → W) {m n : ℕ} {s t first second : List K} (pairs : List K) → s ≡ first → t ≡ second →
     length s ≡ m → length t ≡ n → Paired o meaning s t pairs → (i : ℕ) → i < m * n →
     weight_at o meaning pairs i ≡ o.times (weight_at o meaning first (i / n)) (weight_at o meaning second (i % n))
 paired_parts o meaning {m} {n} {s} {t} {first} {second} pairs es et long wide paired = rw (es, et) at (rw (long, wide) at paired)
+
+-- the row of a pair ends within its block; r and k are the numbers of states as the code has them
+pub pair_row_fits : (m n : ℕ) {r k p q room : ℕ} → r ≡ m → k ≡ n → room ≡ m * n * (m * n) → p < r → q < k → (p * k + q) * (r * k) + r * k ≤ room
+pair_row_fits m n {r} {k} er ek e h l =
+    let states = ap₂ ◌*◌ er ek in
+    row_fits (r * k) {m = r * k} (e ∙ sym (ap₂ ◌*◌ states states)) (digits_lt h l)

@@ -8,7 +8,6 @@ use Rattle.machines.specs.Arcs.{block_entry}
 use Rattle.machines.specs.Tables.{weight_at}
 use Rattle.charts.specs.declared.refusals.Refusal.{Refusal}
 use Rattle.charts.specs.declared.refusals.Refusal.TheVariants.{Memory, LetterCounts, TooManyStates}
-use Rattle.machines.specs.declared.machine.Machine.{Machine as Held}
 use Rattle.machines.specs.Meant.{machine_of}
 use Rattle.machines.specs.Questions.{ask}
 use Rattle.machines.specs.Shapes.{Lent, machine_size}
@@ -21,10 +20,10 @@ crossing_answer first second table =
     (ask (nat_le states 64) TooManyStates (ask (nat_le (machine_size states first.letters) table) Memory (Ok tt)))
 
 -- the crossing of two machines in a list: how many weights it has, and the machine that it means
-abbrev pub pair_size : {K : Type 0} → (x y : Held K) → ℕ
+abbrev pub pair_size : {K : Type 0} → (x y : Lent K) → ℕ
 pair_size x y = machine_size (x.states * y.states) x.letters
 
-abbrev pub pair_machine : {K W : Type 0} → Ops W → (K → W) → (x y : Held K) → List K → Machine W
+abbrev pub pair_machine : {K W : Type 0} → Ops W → (K → W) → (x y : Lent K) → List K → Machine W
 pair_machine o meaning x y = machine_of o meaning (x.states * y.states) x.letters
 
 -- each weight of the new row is the factor chained with the other row's

@@ -5,7 +5,7 @@ mod pairs;
 
 ghost use Rattle.std.specs.Prelude.{◌≡◌, ◌*◌, ◌≤◌, true, length, is_ok};
 ghost use Rattle.machines.specs.Machine.{Alike, crossed};
-ghost use Rattle.machines.specs.Meant.{lent, meant};
+ghost use Rattle.machines.specs.Meant.{meant};
 ghost use Rattle.crossing.specs.Crossings.{crossing_answer, pair_machine, pair_size, Multiplies};
 ghost use Rattle.machines.specs.Questions.{KeptBehind};
 
@@ -21,7 +21,7 @@ pub fn cross<K: Weight>(
     second: &Machine<K>,
     table: &mut [K],
 ) -> Result<(), Refusal>
-    ensures answers { result ≡ crossing_answer (lent first.now) (lent second.now) (length table.old) }
+    ensures answers { result ≡ crossing_answer first.now second.now (length table.old) }
     ensures crosses { is_ok result ≡ true → Alike (pair_machine K.Weight.ops K.Weight.meaning first.now second.now table.new) (crossed K.Weight.ops (meant K.Weight.ops K.Weight.meaning first.now) (meant K.Weight.ops K.Weight.meaning second.now)) }
     ensures table_kept { KeptBehind (is_ok result) (pair_size first.now second.now) table.old table.new }
 {
@@ -42,7 +42,7 @@ pub fn cross<K: Weight>(
 
 // Writes the start weights, the end weights and the blocks of a crossing.
 fn write_crossing<K: Weight>(first: &Machine<K>, second: &Machine<K>, table: &mut [K])
-    requires within { ((lent first.now).states * (lent second.now).states ≤ 64) × ((lent first.now).letters ≡ (lent second.now).letters) }
+    requires within { (first.now.states * second.now.states ≤ 64) × (first.now.letters ≡ second.now.letters) }
     requires fits { length table.old ≡ pair_size first.now second.now }
     ensures { Alike (pair_machine K.Weight.ops K.Weight.meaning first.now second.now table.new) (crossed K.Weight.ops (meant K.Weight.ops K.Weight.meaning first.now) (meant K.Weight.ops K.Weight.meaning second.now)) }
 {
@@ -60,7 +60,7 @@ pub fn cross_commutative<K: Commutative>(
     second: &Machine<K>,
     table: &mut [K],
 ) -> Result<(), Refusal>
-    ensures answers { result ≡ crossing_answer (lent first.now) (lent second.now) (length table.old) }
+    ensures answers { result ≡ crossing_answer first.now second.now (length table.old) }
     ensures crosses { is_ok result ≡ true → Alike (pair_machine K.Weight.ops K.Weight.meaning first.now second.now table.new) (crossed K.Weight.ops (meant K.Weight.ops K.Weight.meaning first.now) (meant K.Weight.ops K.Weight.meaning second.now)) }
     ensures multiplies { is_ok result ≡ true → Multiplies K.Weight.ops (meant K.Weight.ops K.Weight.meaning first.now) (meant K.Weight.ops K.Weight.meaning second.now) (pair_machine K.Weight.ops K.Weight.meaning first.now second.now table.new) }
     ensures table_kept { KeptBehind (is_ok result) (pair_size first.now second.now) table.old table.new }

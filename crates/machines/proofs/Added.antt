@@ -2,27 +2,20 @@
 use Rattle.std.proofs.Common.{◌≡◌, ℕ, ◌+◌, ◌-◌, ◌*◌, ◌<◌, ◌≤◌, Bool, true, false, cond, ◌&&◌, eqb, List, length, take, drop, sym, refl, ap, ◌∙◌, ap₂, inl, inr, le_refl, add-one, arith}
 use lib.Arith.{digits_lt}
 use borrow.Rule.Slice.PartMut.{put_mid}
-use Rattle.std.proofs.lemmas.Bool.{cases_eq, eq-eqb, ne_eqb, cond-true, cond-false, and_from, and_left, and_right}
+use Rattle.std.proofs.lemmas.Bool.{cases_eq, eq-eqb, ne_eqb, cond-true, cond-false}
 use Rattle.weights.specs.Semiring.{Ops, Plain}
 use Rattle.charts.specs.Views.{Row}
 use Rattle.charts.specs.Sums.{sum}
 use Rattle.machines.specs.Closure.{Table}
-use Rattle.machines.specs.Tables.{weight_at, table_of, Entries, JoinedAt}
-use Rattle.machines.specs.Arcs.{arc_adds, arc_adds_behind, block_entry, Blocks}
-use Rattle.machines.proofs.Places.{same_place, block_fits, row_put_in, row_put_out, weight_part}
+use Rattle.machines.specs.Tables.{weight_at, table_of, Entries}
+use Rattle.machines.specs.Arcs.{arc_adds_behind, block_entry, Blocks}
+use Rattle.machines.proofs.Places.{block_fits, row_put_in, row_put_out, weight_part}
 use Rattle.machines.proofs.Sums.{plus_nil, sum_cong}
 
 -- two tests, one after the other, are both
 cond_and : {X : Type 0} (a b : Bool) (x y : X) → cond a (cond b x y) y ≡ cond (a && b) x y
 cond_and true b x y = refl
 cond_and false b x y = refl
-
--- at another place the row or the column is another
-elsewhere : (d p q i k : ℕ) → (p * d + q ≡ i * d + k → ⊥) → (eqb p i && eqb q k) ≡ false
-elsewhere d p q i k y = elim (cases_eq p i) [
-  | inl s ↦ and_right _ _ (ne_eqb q k (λ t. y (ap₂ (λ r c. r * d + c) s t)))
-  | inr z ↦ and_left _ _ (ne_eqb p i z)
-]
 
 -- block a of d states is written; m is its size as the code has it
 module _ {K W : Type 0} (o : Ops W) (meaning : K → W) (d a m : ℕ) (ws ys : List K)
@@ -43,41 +36,6 @@ module _ {K W : Type 0} (o : Ops W) (meaning : K → W) (d a m : ℕ) (ws ys : L
       row_put_out o meaning (d * d) (a - 1) m ws ys same begins long {f = old} (c - 1) (λ e. y (omega arith)) (λ q z. refl) (i * d + k) (digits_lt h l)
 
 module _ {K W : Type 0} {o : Ops W} (meaning : K → W) (plain : Plain o) where
-  -- a weight is joined into one entry, and so is zero into the others
-  entry_joined : (d p q : ℕ) {w : W} (ws new : List K) → q < d → JoinedAt o meaning (p * d + q) w ws new →
-      Entries d (table_of o meaning d new) (λ i k. o.plus (table_of o meaning d ws i k) (cond (eqb p i && eqb q k) w o.nil))
-  entry_joined d p q {w} ws new within joined i k h l = elim (cases_eq (p * d + q) (i * d + k)) [
-    | inl s ↦
-        let (row, column) = same_place d p i within l s in
-        let here = cond-true _ w o.nil (and_from _ _ (eq-eqb p i row) (eq-eqb q k column)) in
-        ap (weight_at o meaning new) (sym s) ∙ joined.here ∙ ap₂ o.plus (ap (weight_at o meaning ws) s) (sym here)
-    | inr y ↦
-        joined.others (i * d + k) (λ s. y (sym s)) ∙ sym (ap (o.plus _) (cond-false _ w o.nil (elsewhere d p q i k y)) ∙ plus_nil plain _)
-  ]
-
-  -- an arc is joined into its entry
-  pub arc_joined : (weighs : (minutes grade parts : ℕ) → W) (r : Row) (c d p q : ℕ) {w : W} (ws new : List K) →
-      p ≡ r.from → q ≡ r.to → r.letter ≡ c → w ≡ weighs r.minutes r.grade r.parts → q < d → JoinedAt o meaning (p * d + q) w ws new →
-      Entries d (table_of o meaning d new) (λ i k. o.plus (table_of o meaning d ws i k) (arc_adds o weighs r c i k))
-  arc_joined weighs r c d p q {w} ws new begins ends spells weight within joined i k h l =
-      let same : (eqb p i && eqb q k) ≡ (eqb r.letter c && eqb r.from i && eqb r.to k) = rw (eq-eqb r.letter c spells, begins, ends) in
-      entry_joined d p q ws new within joined i k h l ∙ ap₂ (λ b x. o.plus (table_of o meaning d ws i k) (cond b x o.nil)) same weight
-
-  -- an arc with another letter adds nothing
-  pub adds_nothing : (weighs : (minutes grade parts : ℕ) → W) (r : Row) (c i k : ℕ) (a : W) → eqb r.letter c ≡ false →
-      a ≡ o.plus a (arc_adds o weighs r c i k)
-  adds_nothing weighs r c i k a e =
-      let none = cond-false _ _ _ (and_left _ (eqb r.to k) (and_left _ (eqb r.from i) e)) in
-      sym (ap (o.plus a) none ∙ plus_nil plain a)
-
-  -- one more is joined into every entry of a table that holds the join of the first n; m is d as the code has it
-  pub entries_more : (d m n : ℕ) (old new : List K) (f : ℕ → Table W) (g : Table W) → m ≡ d → ((i k : ℕ) → g i k ≡ f n i k) →
-      Entries d (table_of o meaning d old) (λ i k. sum o n (λ e. f e i k)) →
-      Entries m (table_of o meaning m new) (λ i k. o.plus (table_of o meaning m old i k) (g i k)) →
-      Entries d (table_of o meaning d new) (λ i k. sum o (n + 1) (λ e. f e i k))
-  entries_more d m n old new f g same adds held step i k h l =
-      rw (add-one n) ((rw same at step) i k h l ∙ ap₂ o.plus (held i k h l) (adds i k))
-
   -- one more is joined
   pub sum_more : (n : ℕ) (f : ℕ → W) {x y : W} → x ≡ sum o n f → y ≡ o.plus x (f n) → y ≡ sum o (n + 1) f
   sum_more n f held e = rw (add-one n) (e ∙ ap (λ x. o.plus x (f n)) held)
@@ -123,12 +81,6 @@ module _ {K W : Type 0} {o : Ops W} (meaning : K → W) (plain : Plain o) where
       rw (spells, begins, ends, weight) (cond_and (eqb r.letter c) (eqb r.to k) _ _) in
       block_joined d a m ws ys (λ i k. cond (eqb q k) (o.times (e i p) w) o.nil) some same fits long step c i k b h l
       ∙ ap (o.plus (block_entry o meaning d ws c i k)) added
-
-  -- a silent arc is in no block
-  pub adds_nothing_behind : (weighs : (minutes grade parts : ℕ) → W) (e : Table W) (r : Row) (c i k : ℕ) (a : W) → eqb r.letter c ≡ false →
-      a ≡ o.plus a (arc_adds_behind o weighs e r c i k)
-  adds_nothing_behind weighs e r c i k a n =
-      sym (ap (o.plus a) (cond-false _ _ _ (and_left _ (eqb r.to k) n)) ∙ plus_nil plain a)
 
   -- one more is joined into every block that holds the join of the first n; m is d as the code has it
   pub blocks_more : (d m n : ℕ) (old new : List K) (f : ℕ → ℕ → Table W) (g : ℕ → Table W) → m ≡ d → ((c i k : ℕ) → g c i k ≡ f n c i k) →

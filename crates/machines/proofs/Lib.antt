@@ -6,8 +6,10 @@ pub mod Paths
 pub mod Clears
 pub mod Bridges
 pub mod Places
+pub mod Matrices
 pub mod Rounds
 pub mod Added
 pub mod Behind
 pub mod Laid
 pub mod Told
+pub mod Parts

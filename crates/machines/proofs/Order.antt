@@ -64,7 +64,3 @@ module _ {W : Type 0} {o : Ops W} (laws : Plain o) where
   pub part_longer : (f : ℕ → W) (n m : ℕ) → n ≤ m → Part o (sum o n f) (sum o m f)
   part_longer f n m h =
       le_ind (λ k. Part o (sum o n f) (sum o k f)) part_refl (λ k _ p. part_trans p (record { rest = f k; joined = refl })) m h
-
-  -- each of many is part of their join
-  pub part_at : (n : ℕ) (f : ℕ → W) (i : ℕ) → i < n → Part o (f i) (sum o n f)
-  part_at n f i h = part_trans (record { rest = sum o i f; joined = plus_comm (f i) (sum o i f) }) (part_longer f (suc i) n h)

@@ -2,12 +2,11 @@
 use Rattle.std.proofs.Common.{◌≡◌, ℕ, zero, suc, ◌+◌, ◌-◌, ◌*◌, ◌/◌, ◌%◌, ◌<◌, ◌≤◌, List, [], ◌∷◌, ◌++◌, map, length, get_or, take, drop, set, sym, refl, ap, ◌∙◌, inl, inr, mul-le-mul_right, suc-mul, suc-add, zero-add, arith, length-drop, length-take-le}
 use native.Mathlib.Nat.{add-sub_cancel_left}
 use lib.Arith.{digits_lt, digits_div, digits_mod}
-use lib.ListN.{get_or-eq_default}
 use borrow.Rule.Slice.PartMut.{put_mid}
 use Rattle.std.proofs.lemmas.List.{map-set, get_or-set_same, get_or-set_other, length-map, get_or-map}
 use Rattle.std.proofs.lemmas.Bool.{cases_eq, cases_lt}
 use Rattle.weights.specs.Semiring.{Ops}
-use Rattle.machines.specs.Tables.{weight_at, table_of, Entries, JoinedAt}
+use Rattle.machines.specs.Tables.{weight_at, table_of, Entries}
 
 -- a row ends where the next begins, or before
 pub row_before : (d n r q : ℕ) → n < r → n * d + d ≤ r * d + q
@@ -64,10 +63,6 @@ module _ {K W : Type 0} (o : Ops W) (meaning : K → W) where
   pub weight_read : (ws : List K) (p : ℕ) (x : K) → p < length ws → x ≡ get_or ws p x → weight_at o meaning ws p ≡ meaning x
   weight_read ws p x h e = get_or-map meaning ws p x o.nil h ∙ ap meaning (sym e)
 
-  -- past the end there is zero
-  pub weight_past : (ws : List K) (p : ℕ) → length ws ≤ p → weight_at o meaning ws p ≡ o.nil
-  weight_past ws p h = get_or-eq_default (map meaning ws) o.nil (rw (length-map ws meaning) h)
-
   -- what a write at a place means there
   pub weight_set_same : (ws : List K) (p : ℕ) (x : K) → p < length ws → weight_at o meaning (set ws p x) p ≡ meaning x
   weight_set_same ws p x h =
@@ -85,6 +80,14 @@ module _ {K W : Type 0} (o : Ops W) (meaning : K → W) where
       Upto (λ r. weight_at o meaning (set ws n x) r ≡ f r) (λ r. weight_at o meaning (set ws n x) r ≡ g r) (n + 1)
   upto_set ws n x h e u =
       upto_more n u (weight_set_same ws n x h ∙ e) (λ r d k. weight_set_other ws n x r d ∙ k) (λ r d k. weight_set_other ws n x r d ∙ k)
+
+  -- one more place is written, and those before it stay
+  pub before_set : {f : ℕ → W} (ws : List K) (n : ℕ) (x : K) → n < length ws → meaning x ≡ f n →
+      ((r : ℕ) → r < n → weight_at o meaning ws r ≡ f r) → (r : ℕ) → r < n + 1 → weight_at o meaning (set ws n x) r ≡ f r
+  before_set ws n x h e before r l = elim (cases_eq r n) [
+    | inl s ↦ rw s (weight_set_same ws n x h ∙ e)
+    | inr d ↦ weight_set_other ws n x r d ∙ before r (omega arith)
+  ]
 
   -- what stands behind the first a places
   weight_drop : (a : ℕ) (ws : List K) (p : ℕ) → weight_at o meaning (drop a ws) p ≡ weight_at o meaning ws (a + p)
@@ -160,27 +163,6 @@ module _ {K W : Type 0} (o : Ops W) (meaning : K → W) (d n k : ℕ) (ws ys : L
       ((r : ℕ) → (r ≡ n → ⊥) → Left r → Left' r) → Upto (λ r. RowIs o meaning d ws r (f r)) Left n →
       Upto (λ r. RowIs o meaning d (put_mid (n * d) k ws ys) r (f r)) Left' (n + 1)
   upto_put {f} e left u = upto_more n u (row_put_in e) (λ r x. row_put_out {f = f r} r x) left
-
--- a weight is joined into place k of row n
-module _ {K W : Type 0} (o : Ops W) (meaning : K → W) (d n k : ℕ) {w : W} (ws new : List K) (within : k < d) (joined : JoinedAt o meaning (n * d + k) w ws new) where
-  -- the other rows are as they were
-  row_join_other : {f : ℕ → W} (r : ℕ) → (r ≡ n → ⊥) → RowIs o meaning d ws r f → RowIs o meaning d new r f
-  row_join_other r other e q h = joined.others (r * d + q) (λ s. other (same_row d r n h within s)) ∙ e q h
-
-  -- in its own row, only that place changes
-  row_join_same : {f g : ℕ → W} → o.plus (g k) w ≡ f k → ((q : ℕ) → (q ≡ k → ⊥) → g q ≡ f q) → RowIs o meaning d ws n g → RowIs o meaning d new n f
-  row_join_same {f} e others held q h = elim (cases_eq q k) [
-    | inl s ↦ rw s (joined.here ∙ ap (λ x. o.plus x w) (held k within) ∙ e)
-    | inr y ↦ joined.others (n * d + q) (λ s. y (omega arith)) ∙ held q h ∙ others q y
-  ]
-
-  -- one more row is done
-  pub upto_join : {f g : ℕ → ℕ → W} → o.plus (g n k) w ≡ f n k → ((q : ℕ) → (q ≡ k → ⊥) → g n q ≡ f n q) →
-      Upto (λ r. RowIs o meaning d ws r (f r)) (λ r. RowIs o meaning d ws r (g r)) n →
-      Upto (λ r. RowIs o meaning d new r (f r)) (λ r. RowIs o meaning d new r (g r)) (n + 1)
-  upto_join {f} {g} e others u =
-      let here = row_join_same {f = f n} {g = g n} e others (u.after n (omega arith)) in
-      upto_more n u here (λ r y. row_join_other {f = f r} r y) (λ r y. row_join_other {f = g r} r y)
 
 module _ {K W : Type 0} (o : Ops W) (meaning : K → W) (d : ℕ) where
   -- a table is that of the first places of its list

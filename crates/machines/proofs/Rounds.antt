@@ -2,25 +2,11 @@
 use Rattle.std.proofs.Common.{◌≡◌, ℕ, zero, suc, ◌*◌, ◌<◌, ◌≤◌, List, ◌++◌, length, take, drop, sym, ap, ◌∙◌, ap₂, le_refl, arith}
 use Rattle.weights.specs.Semiring.{Ops, Laws}
 use Rattle.machines.specs.Closure.{Table, diagonal, round, rounds, closed}
-use Rattle.machines.specs.Tables.{weight_at, table_of, Joined, Entries, Closed}
-use Rattle.machines.proofs.Places.{RowIs, weight_part, table_take, table_front}
+use Rattle.machines.specs.declared.matrix.Matrix.{Matrix}
+use Rattle.machines.specs.Matrix.{Becomes, matrix_of}
+use Rattle.machines.specs.Tables.{table_of, Entries, Closed}
+use Rattle.machines.proofs.Places.{table_take, table_front}
 use Rattle.machines.proofs.Closes.{closes_uniformly}
-
-module _ {K W : Type 0} (o : Ops W) (meaning : K → W) (d j i : ℕ) (within : j < d) where
-  -- with the old row of the pivot kept, the star of its old entry and the row's own old entry, a row becomes that of the
-  -- round; n is the row's length as the code has it
-  pub round_row : {start star factor : W} (old now kept row : List K) (n : ℕ) → n ≡ d → length kept ≡ d →
-      kept ≡ take d (drop (j * d) old) → RowIs o meaning d now i (table_of o meaning d old i) →
-      weight_at o meaning (take n (drop (i * d) now)) j ≡ start → star ≡ o.star (weight_at o meaning kept j) → factor ≡ o.times start star →
-      Joined o meaning (take n (drop (i * d) now)) factor kept row →
-      (q : ℕ) → q < d → weight_at o meaning row q ≡ round o j (table_of o meaning d old) i q
-  round_row old now kept row n same long copied held begins looped made joined q h =
-      let pivot : (p : ℕ) → p < d → weight_at o meaning kept p ≡ table_of o meaning d old j p =
-      λ p l. ap (λ ws. weight_at o meaning ws p) copied ∙ weight_part o meaning (j * d) d old p l in
-      let here : (p : ℕ) → p < d → weight_at o meaning (take n (drop (i * d) now)) p ≡ table_of o meaning d old i p =
-      λ p l. weight_part o meaning (i * d) n now p (omega arith) ∙ held p l in
-      let loop = looped ∙ ap o.star (pivot j within) in
-      joined q (omega arith) ∙ ap₂ o.plus (here q h) (ap₂ o.times (made ∙ ap₂ o.times (sym begins ∙ here j within) loop) (pivot q h))
 
 -- a round of tables that agree
 pub round_cong : {W : Type 0} (o : Ops W) (d j : ℕ) {t u : Table W} → j < d → Entries d t u → Entries d (round o j t) (round o j u)
@@ -45,3 +31,10 @@ module _ {K W : Type 0} {o : Ops W} (meaning : K → W) (laws : Laws o) (d : ℕ
       λ i k h l. table_front o meaning d new (drop (d * d) old) long i k h l ∙ e i k h l ∙ closed_cong o d (table_take o meaning d old) i k h l in
       let (n, settled) = closes_uniformly laws.plain laws.settles d (table_of o meaning d old) in
       record { entries = entries; settles = (n, λ m b i k h l. settled m b i k h l ∙ sym (entries i k h l)) }
+
+  -- and so does closing a matrix that lies there
+  pub matrix_closed : (old new : List K) (made shut : Matrix K) → made.states ≡ d → made.weights.now ≡ take (d * d) old →
+      Becomes o meaning made shut (closed o made.states (matrix_of o meaning made)) → new ≡ shut.weights.now ++ drop (d * d) old →
+      Closed o meaning d old new
+  matrix_closed old new made shut states lies closes lent =
+      rw lent (front_closed old shut.weights.now (rw (closes.states, states) at shut.square.1) (rw (states, lies) at closes.entries))

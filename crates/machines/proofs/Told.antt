@@ -7,7 +7,9 @@ use Rattle.machines.specs.Closure.{Table, closed}
 use Rattle.machines.specs.Machine.{Machine, Alike, arc_table, cleared, cleared_by}
 use Rattle.machines.specs.Meant.{machine_of, Cleared}
 use Rattle.machines.specs.Shapes.{machine_size}
-use Rattle.machines.specs.Tables.{weight_at, table_of, Entries}
+use Rattle.machines.specs.declared.matrix.Matrix.{Matrix}
+use Rattle.machines.specs.Matrix.{Becomes, matrix_of}
+use Rattle.machines.specs.Tables.{weight_at, Entries}
 use Rattle.machines.proofs.Bridges.{told_cong}
 use Rattle.machines.proofs.Clears.{clears}
 use Rattle.machines.proofs.Places.{block_fits, weight_take, weight_part, weight_first}
@@ -47,10 +49,13 @@ module _ {K W : Type 0} (o : Ops W) (meaning : K → W) where
             part (2 * d + (c - 1) * (d * d)) (d * d) (i * d + k) place (omega arith);
       }
 
-  -- a table is closed that has these entries; s is d as the code has it
-  pub closed_from : (s d : ℕ) → s ≡ d → (t : Table W) (old new : List K) → Entries d (table_of o meaning d old) t →
-      Entries s (table_of o meaning s new) (closed o s (table_of o meaning s old)) → Entries d (table_of o meaning d new) (closed o d t)
-  closed_from s d same t old new held closes i k h l = (rw same at closes) i k h l ∙ closed_cong o d held i k h l
+  -- a matrix is closed that has these entries
+  pub closed_from : (d : ℕ) (t : Table W) (made held shut : Matrix K) → made.states ≡ d → Becomes o meaning made held t →
+      Becomes o meaning held shut (closed o held.states (matrix_of o meaning held)) → Entries d (matrix_of o meaning shut) (closed o d t)
+  closed_from d t made held shut states first closes =
+      let before = rw states at first.entries in
+      let after = rw (first.states ∙ states) at closes.entries in
+      rw (closes.states ∙ first.states ∙ states) (λ i k h l. after i k h l ∙ closed_cong o d before i k h l)
 
 module _ {W : Type 0} {o : Ops W} (plain : Plain o) (a : Automaton W) where
   -- the machine depends on the closed table's entries alone

@@ -5,3 +5,4 @@ pub mod Shapes
 pub mod Questions
 pub mod Meant
 pub mod Arcs
+pub mod Matrix

@@ -1,9 +1,7 @@
 -- The machine that a list of weights means.
-use Rattle.std.specs.Prelude.{ℕ, List, reverse, Ok, Err, Result}
+use Rattle.std.specs.Prelude.{ℕ, List, reverse}
 use Rattle.weights.specs.Semiring.{Ops}
 use Rattle.charts.specs.Automaton.{Automaton, Within, Settled}
-use Rattle.charts.specs.declared.refusals.Refusal.{Refusal}
-use Rattle.machines.specs.declared.machine.Machine.{Machine as Held}
 use Rattle.machines.specs.Machine.{Machine, Alike, cleared, told}
 use Rattle.machines.specs.Shapes.{Lent, start_part, end_part, block_part}
 use Rattle.machines.specs.Tables.{weight_at, table_of}
@@ -18,17 +16,9 @@ machine_of o meaning states letters table = record {
   block = λ c. table_of o meaning states (block_part states c table);
 }
 
--- what a machine of the code holds, and what it means
-abbrev pub lent : {K : Type 0} → Held K → Lent K
-lent m = record { states = m.states; letters = m.letters; table = m.table.now }
-
-abbrev pub meant : {K W : Type 0} → Ops W → (K → W) → Held K → Machine W
-meant o meaning m = machine_of o meaning m.states m.letters m.table.now
-
--- what the machine that was made holds, or the refusal
-abbrev pub made : {K : Type 0} → Result (Held K) Refusal → Result (Lent K) Refusal
-made (Ok m) = Ok (lent m)
-made (Err e) = Err e
+-- what a machine of the code means
+abbrev pub meant : {K W : Type 0} → Ops W → (K → W) → Lent K → Machine W
+meant o meaning m = machine_of o meaning m.states m.letters m.table
 
 -- what clearing makes of the chart of an automaton: the table's machine has the weights of the cleared chart, and for every
 -- list of letters its start, blocks and ends give the settled sum over the chart's paths; a list has its last letter first

@@ -1,5 +1,5 @@
 -- How a machine lies in a list of weights, and the limits of its numbers.
-use Rattle.std.specs.Prelude.{ℕ, ◌+◌, ◌-◌, ◌*◌, ◌≤◌, Bool, ◌&&◌, List, length, take, drop, nat_le}
+use Rattle.std.specs.Prelude.{◌≡◌, ℕ, ◌+◌, ◌-◌, ◌*◌, ◌≤◌, Bool, ◌&&◌, List, length, take, drop, nat_le}
 
 -- a table or a machine has 1 to 64 states, and a machine 1 to 15 letters
 abbrev pub states_fit : ℕ → Bool
@@ -21,6 +21,14 @@ end_part states table = take states (drop states table)
 
 abbrev pub block_part : {K : Type 0} → (states letter : ℕ) → List K → List K
 block_part states letter table = take (states * states) (drop (2 * states + (letter - 1) * (states * states)) table)
+
+-- the row of a state in the block of a letter
+abbrev pub row_part : {K : Type 0} → (states letter state : ℕ) → List K → List K
+row_part states letter state table = take states (drop (state * states) (block_part states letter table))
+
+-- what a matrix keeps: at most 64 states, and a weight from each to each
+abbrev pub Square : {K : Type 0} → ℕ → List K → Type 0
+Square states weights = (states ≤ 64) × (length weights ≡ states * states)
 
 -- what a machine keeps: numbers in the limits, and a table that is long enough
 abbrev pub Shaped : {K : Type 0} → (states letters : ℕ) → List K → Type 0

@@ -1,5 +1,5 @@
 -- Weights that lie in a list of values: what stands at a place, and the table of a list, row by row.
-use Rattle.std.specs.Prelude.{◌≡◌, ℕ, ◌+◌, ◌*◌, ◌<◌, List, map, length, ◌≢◌, slice_index_or}
+use Rattle.std.specs.Prelude.{◌≡◌, ℕ, ◌+◌, ◌*◌, ◌<◌, List, map, length, slice_index_or}
 use Rattle.weights.specs.Semiring.{Ops}
 use Rattle.machines.specs.Closure.{Table, closed, ClosesUniformly}
 
@@ -16,11 +16,6 @@ abbrev pub Joined : {K W : Type 0} → Ops W → (K → W) → (row : List K) �
 Joined o meaning row factor other new =
     (k : ℕ) → k < length other →
     weight_at o meaning new k ≡ o.plus (weight_at o meaning row k) (o.times factor (weight_at o meaning other k))
-
--- the weight at one place is joined with another; the others are as they were
-pub record JoinedAt {K W : Type 0} (o : Ops W) (meaning : K → W) (p : ℕ) (w : W) (old new : List K) : Type 0 where
-  pub here : weight_at o meaning new p ≡ o.plus (weight_at o meaning old p) w
-  pub others : (q : ℕ) → (q ≢ p) → weight_at o meaning new q ≡ weight_at o meaning old q
 
 -- two tables agree in every entry of d states
 abbrev pub Entries : {W : Type 0} → ℕ → (t u : Table W) → Type 0

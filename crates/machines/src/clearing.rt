@@ -5,13 +5,12 @@ mod silent;
 
 ghost use Rattle.std.specs.Prelude.{◌≡◌, ◌*◌, true, length, is_ok};
 ghost use Rattle.charts.specs.Automaton.{automaton};
-ghost use Rattle.charts.specs.Charts.{view};
 ghost use Rattle.machines.specs.Machine.{Alike, cleared};
 ghost use Rattle.machines.specs.Meant.{machine_of, Cleared};
 ghost use Rattle.machines.specs.Questions.{clearing_answer, KeptBehind};
 ghost use Rattle.machines.specs.Shapes.{machine_size};
 
-use crate::closure::close;
+use crate::matrix::Matrix;
 use blocks::write_blocks;
 use charts::{Chart, Refusal};
 use ends::{write_ends, write_starts};
@@ -26,11 +25,11 @@ pub fn clear<K: Weight>(
     scratch: &mut [K],
     table: &mut [K],
 ) -> Result<(), Refusal>
-    ensures answers { result ≡ clearing_answer (view chart.now).states (view chart.now).letters (length silent.old) (length scratch.old) (length table.old) }
-    ensures clears { is_ok result ≡ true → Cleared K.Weight.ops K.Weight.meaning (automaton K.Weight.weighs (view chart.now)) table.new }
-    ensures silent_kept { KeptBehind (is_ok result) ((view chart.now).states * (view chart.now).states) silent.old silent.new }
-    ensures scratch_kept { KeptBehind (is_ok result) ((view chart.now).states * (view chart.now).states) scratch.old scratch.new }
-    ensures table_kept { KeptBehind (is_ok result) (machine_size (view chart.now).states (view chart.now).letters) table.old table.new }
+    ensures answers { result ≡ clearing_answer chart.now.states chart.now.letters (length silent.old) (length scratch.old) (length table.old) }
+    ensures clears { is_ok result ≡ true → Cleared K.Weight.ops K.Weight.meaning (automaton K.Weight.weighs chart.now) table.new }
+    ensures silent_kept { KeptBehind (is_ok result) (chart.now.states * chart.now.states) silent.old silent.new }
+    ensures scratch_kept { KeptBehind (is_ok result) (chart.now.states * chart.now.states) scratch.old scratch.new }
+    ensures table_kept { KeptBehind (is_ok result) (machine_size chart.now.states chart.now.letters) table.old table.new }
 {
     let states = chart.states();
     let places = states * states;
@@ -50,15 +49,16 @@ pub fn clear<K: Weight>(
 // Closes the silent arcs and writes the start weights, the end weights and the blocks, in memory that fits; `kept` is
 // room for one row.
 fn clear_into<K: Weight>(chart: &Chart, silent: &mut [K], kept: &mut [K], table: &mut [K])
-    requires closes { (length silent.old ≡ (view chart.now).states * (view chart.now).states) × (length kept.old ≡ (view chart.now).states) }
-    requires fits { length table.old ≡ machine_size (view chart.now).states (view chart.now).letters }
-    ensures { Alike (machine_of K.Weight.ops K.Weight.meaning (view chart.now).states (view chart.now).letters table.new) (cleared K.Weight.ops (automaton K.Weight.weighs (view chart.now))) }
+    requires closes { (length silent.old ≡ chart.now.states * chart.now.states) × (length kept.old ≡ chart.now.states) }
+    requires fits { length table.old ≡ machine_size chart.now.states chart.now.letters }
+    ensures { Alike (machine_of K.Weight.ops K.Weight.meaning chart.now.states chart.now.letters table.new) (cleared K.Weight.ops (automaton K.Weight.weighs chart.now)) }
 {
     let states = chart.states();
     let size = table.len();
-    write_silent(chart, silent);
-    close(states, silent, kept);
+    let mut matrix = Matrix::new(states, silent);
+    write_silent(chart, &mut matrix);
+    matrix.close(kept);
     write_starts(chart, &mut table[..states]);
-    write_ends(chart, silent, &mut table[states..2 * states]);
-    write_blocks(chart, silent, &mut table[2 * states..size]);
+    write_ends(chart, &matrix, &mut table[states..2 * states]);
+    write_blocks(chart, &matrix, &mut table[2 * states..size]);
 }

@@ -2,9 +2,10 @@
 ghost use Rattle.std.specs.Prelude.{◌≡◌, ◌*◌, ◌<◌, ◌≤◌, true, length, is_ok};
 ghost use Rattle.machines.specs.Closure.{diagonal, round, closed};
 ghost use Rattle.machines.specs.Questions.{closing_answer, KeptBehind};
-ghost use Rattle.machines.specs.Tables.{table_of, Entries, Closed};
+ghost use Rattle.machines.specs.Matrix.{Becomes, matrix_of};
+ghost use Rattle.machines.specs.Tables.{Closed};
 
-use crate::vectors::{join_at, join_multiple, row_of};
+use crate::matrix::Matrix;
 use charts::Refusal;
 use weights::Weight;
 
@@ -20,51 +21,53 @@ pub fn close_table<K: Weight>(
     ensures table_kept { KeptBehind (is_ok result) (states * states) table.old table.new }
     ensures scratch_kept { KeptBehind (is_ok result) (states * states) scratch.old scratch.new }
 {
-    if states < 1 || states > 64 {
+    if !(1..=64).contains(&states) {
         return Err(Refusal::Limits);
     }
     let places = states * states;
     if table.len() < places || scratch.len() < places {
         return Err(Refusal::Memory);
     }
-    close(states, &mut table[..places], &mut scratch[..states]);
+    let (front, _) = table.split_at_mut(places);
+    let mut matrix = Matrix::new(states, front);
+    matrix.close(&mut scratch[..states]);
     Ok(())
 }
 
-// Closes a table of exactly so many states; `kept` is room for one row.
-pub(crate) fn close<K: Weight>(states: usize, table: &mut [K], kept: &mut [K])
-    requires within { states ≤ 64 }
-    requires fits { (length table.old ≡ states * states) × (length kept.old ≡ states) }
-    ensures { Entries states (table_of K.Weight.ops K.Weight.meaning states table.new) (closed K.Weight.ops states (table_of K.Weight.ops K.Weight.meaning states table.old)) }
-{
-    for pivot in 0..states {
-        close_round(states, pivot, table, kept);
+impl<'a, K: Weight> Matrix<'a, K> {
+    // Closes the matrix; `kept` is room for one row.
+    pub(crate) fn close(&mut self, kept: &mut [K])
+        requires { length kept.old ≡ self.old.states }
+        ensures { Becomes K.Weight.ops K.Weight.meaning self.old self.new (closed K.Weight.ops self.old.states (matrix_of K.Weight.ops K.Weight.meaning self.old)) }
+    {
+        // Each state in turn, since a round is one state's.
+        for pivot in 0..self.states() {
+            self.close_round(pivot, kept);
+        }
+        self.join_one();
     }
-    join_one(states, table);
-}
 
-// Round `pivot`: every entry of the new table from the old one, in place. `kept` keeps the old row of the pivot.
-fn close_round<K: Weight>(states: usize, pivot: usize, table: &mut [K], kept: &mut [K])
-    requires within { (pivot < states) × (states ≤ 64) }
-    requires fits { (length table.old ≡ states * states) × (length kept.old ≡ states) }
-    ensures { Entries states (table_of K.Weight.ops K.Weight.meaning states table.new) (round K.Weight.ops pivot (table_of K.Weight.ops K.Weight.meaning states table.old)) }
-{
-    kept.copy_from_slice(row_of(table, states, pivot));
-    let star = kept[pivot].star();
-    for i in 0..states {
-        let begin = i * states;
-        let row = &mut table[begin..begin + states];
-        let factor = row[pivot].times(star);
-        join_multiple(row, factor, kept);
+    // Round `pivot`: every entry of the new table from the old one, in place. `kept` keeps the old row of the pivot.
+    fn close_round(&mut self, pivot: usize, kept: &mut [K])
+        requires { (pivot < self.old.states) × (length kept.old ≡ self.old.states) }
+        ensures { Becomes K.Weight.ops K.Weight.meaning self.old self.new (round K.Weight.ops pivot (matrix_of K.Weight.ops K.Weight.meaning self.old)) }
+    {
+        kept.copy_from_slice(self.row(pivot));
+        let star = kept[pivot].star();
+        // By state: `chunks_exact_mut` would tell a proof nothing of the rows that are written.
+        for i in 0..self.states() {
+            let factor = self.row(i)[pivot].times(star);
+            self.join_row(i, factor, kept);
+        }
     }
-}
 
-// Joins one into each entry from a state to itself: the walk of no steps.
-fn join_one<K: Weight>(states: usize, table: &mut [K])
-    requires { (states ≤ 64) × (length table.old ≡ states * states) }
-    ensures { Entries states (table_of K.Weight.ops K.Weight.meaning states table.new) (λ i k. K.Weight.ops.plus (table_of K.Weight.ops K.Weight.meaning states table.old i k) (diagonal K.Weight.ops i k)) }
-{
-    for i in 0..states {
-        join_at(table, i * states + i, K::one());
+    // Joins one into each entry from a state to itself: the walk of no steps.
+    fn join_one(&mut self)
+        ensures { Becomes K.Weight.ops K.Weight.meaning self.old self.new (λ i k. K.Weight.ops.plus (matrix_of K.Weight.ops K.Weight.meaning self.old i k) (diagonal K.Weight.ops i k)) }
+    {
+        // By state: `step_by` on `iter_mut` would tell a proof nothing of what is written.
+        for i in 0..self.states() {
+            self.join(i, i, K::ONE);
+        }
     }
 }

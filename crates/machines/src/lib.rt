@@ -4,6 +4,7 @@
 pub mod clearing;
 pub mod closure;
 pub mod machine;
+mod matrix;
 mod vectors;
 
 pub use machine::Machine;

@@ -1,7 +1,9 @@
 // A machine: start and end weights and a block of weights for each letter, in a table that is lent.
 mod parts;
 
-ghost use Rattle.machines.specs.Shapes.{Shaped};
+ghost use Rattle.machines.specs.Shapes.{Lent, Shaped};
+
+use std::marker::Model;
 
 // A machine of 1 to 64 states and 1 to 15 letters. No machine has a table that is too short for it.
 #[derive(Drop)]
@@ -9,5 +11,12 @@ pub struct Machine<'a, K> {
     states: usize,
     letters: u8,
     table: &'a [K],
-    ghost shaped: { Shaped states letters table.now },
+}
+
+impl<'a, K> Model for Machine<'a, K> {
+    ghost Value = { Lent K };
+
+    ghost view = { λ m. record { states = m.states; letters = m.letters; table = m.table.now } };
+
+    ghost invariant = { λ m. Shaped m.states m.letters m.table.now };
 }

@@ -1,21 +1,12 @@
--- Texts that are made line by line, and digit by digit.
-use Rattle.std.proofs.Common.{◌≡◌, ℕ, zero, suc, ◌+◌, ◌-◌, ◌/◌, ◌%◌, ◌<◌, false, List, [], ◌∷◌, ◌++◌, ◌∙◌, append_assoc, add-one, arith}
-use Rattle.std.specs.Fmt.{digit_glyph}
-use Rattle.std.proofs.lemmas.Bool.Decides.{nat_tests}
-use Rattle.reports.specs.Texts.{hex_digits, lines}
+-- Texts that are written line by line.
+use Rattle.std.proofs.Common.{◌≡◌, ℕ, ◌+◌, List, ◌++◌, ap, ◌∙◌, add-one}
+use Rattle.std.proofs.Output.{has_written_append, has_written_of_eq}
+use Rattle.std.specs.Fmt.{HasWritten}
+use Rattle.std.specs.declared.fmt.Formatter.{Formatter}
+use Rattle.reports.specs.Texts.{lines}
 
--- one line more
-pub lines_more : (line : ℕ → List ℕ) (n : ℕ) (before : List ℕ) → (before ++ lines line n) ++ line n ≡ before ++ lines line (n + 1)
-lines_more line n before = append_assoc before (lines line n) (line n) ∙ rw (add-one n)
-
--- one digit more
-pub hex_more : (k n : ℕ) (before : List ℕ) → 0 < k
-    → (before ++ hex_digits (k - 1) (n / 16)) ++ (digit_glyph false (n % 16) ∷ []) ≡ before ++ hex_digits k n
-hex_more zero n before h = absurd (omega arith)
-hex_more (suc k) n before h =
-    let less : suc k - 1 ≡ k = omega arith in
-    append_assoc before (hex_digits (suc k - 1) (n / 16)) _ ∙ rw less
-
--- a digit's character is one of ASCII's
-pub glyph_ascii : (n : ℕ) {c : ℕ} → c ≡ digit_glyph false n → n < 16 → c < 128
-glyph_ascii n e h = grind (arith, nat_tests)
+-- one line more is written
+pub line_written : {W : Type 0} {took : W → List ℕ → W → Type 0} {f g h : Formatter W} (line : ℕ → List ℕ) (n : ℕ) {bs : List ℕ}
+    → HasWritten took f (lines line n) g → HasWritten took g bs h → bs ≡ line n → HasWritten took f (lines line (n + 1)) h
+line_written {took = took} line n before more e =
+    has_written_of_eq took _ _ _ _ (ap (λ t. lines line n ++ t) e ∙ rw (add-one n)) (has_written_append took _ _ _ _ _ before more)

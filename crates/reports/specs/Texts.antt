@@ -1,15 +1,9 @@
 -- The texts of the reports.
-use Rattle.std.specs.Prelude.{ℕ, zero, suc, ◌/◌, ◌%◌, false, cond, List, [], ◌∷◌, ◌++◌, length, Ok, Err, codes, decimal, Result, ◌==◌}
-use Rattle.std.specs.Fmt.{digit_glyph}
+use Rattle.std.specs.Prelude.{ℕ, zero, suc, cond, List, [], ◌++◌, length, Ok, Err, codes, decimal, Result}
 use Rattle.charts.specs.Views.{View, Row, arc_row, starts, ends}
-use Rattle.charts.specs.Refusals.{number_of, place_of}
+use Rattle.charts.specs.Texts.{refusal_text, row_text}
 use Rattle.charts.specs.Format.{decoded}
 use Rattle.charts.specs.declared.refusals.Refusal.{Refusal}
-
--- the lowest k hexadecimal digits of n, in lower case, the highest of them first
-abbrev pub hex_digits : ℕ → ℕ → List ℕ
-hex_digits zero n = []
-hex_digits (suc k) n = hex_digits k (n / 16) ++ digit_glyph false (n % 16) ∷ []
 
 -- chart 3 states, 2 letters, 5 arcs
 abbrev pub first_line : View → List ℕ
@@ -22,27 +16,16 @@ abbrev pub state_line : View → ℕ → List ℕ
 state_line v i =
     codes "state " ++ (decimal i ++ (cond (starts v i) (codes " start") [] ++ (cond (ends v i) (codes " end") [] ++ codes "\n")))
 
--- letter 1, or silent
-abbrev pub letter_text : ℕ → List ℕ
-letter_text c = cond (c == 0) (codes "silent") (codes "letter " ++ decimal c)
-
--- 10 minutes, grade 90, parts 00000001
-abbrev pub record_text : (minutes grade parts : ℕ) → List ℕ
-record_text minutes grade parts =
-    decimal minutes ++ (codes " minutes, grade " ++ (decimal grade ++ (codes ", parts " ++ hex_digits 8 parts)))
-
 -- arc 0: 0 -> 1 letter 1, 10 minutes, grade 90, parts 00000001
 abbrev pub row_line : ℕ → Row → List ℕ
-row_line e r =
-    codes "arc " ++ (decimal e ++ (codes ": " ++ (decimal r.from ++ (codes " -> " ++ (decimal r.to ++ (codes " "
-    ++ (letter_text r.letter ++ (codes ", " ++ (record_text r.minutes r.grade r.parts ++ codes "\n")))))))))
+row_line e r = codes "arc " ++ (decimal e ++ (codes ": " ++ (row_text r ++ codes "\n")))
 
 abbrev pub arc_line : View → ℕ → List ℕ
 arc_line v e = row_line e (arc_row v e)
 
 -- refused 5 2
 abbrev pub refusal_line : Refusal → List ℕ
-refusal_line e = codes "refused " ++ (decimal (number_of e) ++ (codes " " ++ (decimal (place_of e) ++ codes "\n")))
+refusal_line e = codes "refused " ++ (refusal_text e ++ codes "\n")
 
 -- line 0 up to line (n - 1)
 abbrev pub lines : (ℕ → List ℕ) → ℕ → List ℕ

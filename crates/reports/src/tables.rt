@@ -1,47 +1,69 @@
 // A chart as the table that a fitter holds beside a path.
-ghost use Rattle.std.specs.Prelude.{◌≡◌, ℕ, ◌≤◌, List, ◌++◌, length, IfOk, string_bytes, OnOk};
-ghost use Rattle.charts.specs.Charts.{view};
+ghost use Rattle.std.specs.Prelude.{◌≡◌, ℕ, ◌≤◌, List, ◌++◌, Some, length, IfOk, string_bytes};
+ghost use Rattle.std.specs.Fmt.{WritesOnOk};
 ghost use Rattle.reports.specs.Texts.{state_line, arc_line, lines, table, report};
 
-use crate::lines::{arc_line, first_line, refusal_line, state_line};
+use crate::lines::refusal_line;
 use charts::Chart;
 use std::alloc::{AllocError, Global};
+use std::fmt;
 
 // A file of this many bytes is too long for a chart, whatever follows, so no more of it need be read.
 pub const ENOUGH: u64 = 8193;
 
-// Writes a line for each state.
-fn push_states(heap: Global, text: &mut String, chart: &Chart) -> Result<(), AllocError>
-    ensures { OnOk result (string_bytes text.new ≡ string_bytes text.old ++ lines (state_line (view chart.now)) (view chart.now).states) }
+// A chart that is printed as its table.
+#[derive(Clone, Copy)]
+struct Printed<'a>(&'a Chart<'a>);
+
+impl fmt::Display for Printed<'_> {
+    ghost output = { λ p. Some (table p.0.now) };
+
+    fn fmt<W: fmt::Write>(&self, f: &mut fmt::Formatter<W>) -> fmt::Result {
+        let chart = self.0;
+        let states = chart.states();
+        let letters = chart.letters();
+        let arcs = chart.arcs();
+        writeln!(f, "chart {states} states, {letters} letters, {arcs} arcs")?;
+        write_states(f, chart)?;
+        write_arcs(f, chart)
+    }
+}
+
+// A state, and whether paths begin and end there.
+fn write_state<W: fmt::Write>(f: &mut fmt::Formatter<W>, chart: &Chart, state: usize) -> fmt::Result
+    ensures { WritesOnOk W.write_str_gives f.old result (state_line chart.now state) f.new }
 {
+    let start = if chart.is_start(state) { " start" } else { "" };
+    let end = if chart.is_end(state) { " end" } else { "" };
+    writeln!(f, "state {state}{start}{end}")
+}
+
+// Writes a line for each state.
+fn write_states<W: fmt::Write>(f: &mut fmt::Formatter<W>, chart: &Chart) -> fmt::Result
+    ensures { WritesOnOk W.write_str_gives f.old result (lines (state_line chart.now) chart.now.states) f.new }
+{
+    // By number, which is what a state has and what the line begins with.
     for state in 0..chart.states() {
-        let line = state_line(heap, chart, state)?;
-        text.push_str(line.as_str())?;
+        write_state(f, chart, state)?;
     }
     Ok(())
 }
 
 // Writes a line for each arc.
-fn push_arcs(heap: Global, text: &mut String, chart: &Chart) -> Result<(), AllocError>
-    ensures { OnOk result (string_bytes text.new ≡ string_bytes text.old ++ lines (arc_line (view chart.now)) (length (view chart.now).arc_rows)) }
+fn write_arcs<W: fmt::Write>(f: &mut fmt::Formatter<W>, chart: &Chart) -> fmt::Result
+    ensures { WritesOnOk W.write_str_gives f.old result (lines (arc_line chart.now) (length chart.now.arc_rows)) f.new }
 {
-    for number in 0..chart.arcs() {
-        if let Some(arc) = chart.arc(number) {
-            let line = arc_line(heap, number, arc)?;
-            text.push_str(line.as_str())?;
-        }
+    for (number, arc) in chart.arcs_in_order().enumerate() {
+        writeln!(f, "arc {number}: {arc}")?;
     }
     Ok(())
 }
 
 // The table of a chart, or nothing where there is no memory for it.
 pub fn chart_table(heap: Global, chart: &Chart) -> Result<String, AllocError>
-    ensures { IfOk result (λ s. string_bytes s ≡ table (view chart.now)) }
+    ensures { IfOk result (λ s. string_bytes s ≡ table chart.now) }
 {
-    let mut text = first_line(heap, chart)?;
-    push_states(heap, &mut text, chart)?;
-    push_arcs(heap, &mut text, chart)?;
-    Ok(text)
+    Printed(chart).to_string(heap)
 }
 
 // The table of the chart that a file holds, or its refusal. Of a long file the front is enough, whatever follows it.

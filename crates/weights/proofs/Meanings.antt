@@ -1,5 +1,5 @@
 -- What the methods of the kinds answer.
-use Rattle.std.proofs.Common.{◌≡◌, ℕ, ◌*◌, min, eqb, leb, Decides, sym, ◌∙◌, ap₂, arith}
+use Rattle.std.proofs.Common.{◌≡◌, ℕ, ◌+◌, ◌*◌, min, max, eqb, leb, Decides, sym, ◌∙◌, ap₂, arith}
 use Rattle.std.proofs.lemmas.Bool.Decides.{Decides-eqb, Decides-like, nat_tests}
 use Rattle.weights.specs.Capped.{Upto, capped, smaller, larger, same_value, value_of}
 use Rattle.weights.specs.CountLaws.{min_mul, mul_min}
@@ -8,6 +8,18 @@ use Rattle.weights.specs.CountLaws.{min_mul, mul_min}
 pub same_capped : (k x y : ℕ) {u v : ℕ} → u ≡ min x k → v ≡ min y k → Decides (eqb u v) (capped k x ≡ capped k y)
 same_capped k x y {u} {v} p q =
     Decides-like (eqb u v) (λ e. same_value _ _ (sym p ∙ e ∙ q)) (λ e. p ∙ value_of e ∙ sym q) (Decides-eqb u v)
+
+-- the smaller of two numbers means the smaller of the meanings
+pub smaller_capped : (k x y : ℕ) → capped k (min x y) ≡ smaller (capped k x) (capped k y)
+smaller_capped k x y = same_value _ _ (omega arith)
+
+-- and the larger the larger
+pub larger_capped : (k x y : ℕ) → capped k (max x y) ≡ larger (capped k x) (capped k y)
+larger_capped k x y = same_value _ _ (omega arith)
+
+-- a sum stopped at the cap means the sum of the meanings
+pub plus_capped : (k x y : ℕ) → capped k (min (x + y) k) ≡ capped k (min x k + min y k)
+plus_capped k x y = same_value _ _ (omega arith)
 
 -- a product stopped at the cap means the product of the meanings
 pub times_capped : (k x y : ℕ) → capped k (min (x * y) k) ≡ capped k (min x k * min y k)

@@ -4,7 +4,7 @@ use Rattle.std.proofs.Common.{sym, ap, ◌∙◌, mul_comm, mul_assoc, mul-add, 
 use Rattle.std.proofs.Math.Nat.{min-eq_left}
 use Rattle.std.proofs.Math.Decide.{dec_le}
 use Rattle.std.proofs.Math.Dec.{eqb-suc-zero}
-use Rattle.weights.specs.Semiring.{Plain, Laws, power, powers}
+use Rattle.weights.specs.Semiring.{Plain, Laws, Commutes, power, powers}
 use Rattle.weights.specs.Capped.{Upto, same_value, value_of}
 use Rattle.weights.specs.Count.{most_counted, count_ops}
 
@@ -46,6 +46,10 @@ settles a m h = same_value _ _ (go a.value refl)
     go : (v : ℕ) → a.value ≡ v → (powers count_ops a m).value ≡ min (cond (v == 0) 1 most_counted) most_counted
     go zero e = powers_zero a e m
     go (suc v) e = rw (eqb-suc-zero v) (omega (arith, powers_grow a (omega arith) m, (powers count_ops a m).small))
+
+-- a product does not mind the order
+pub count_commutes : Commutes count_ops
+count_commutes a b = same_value _ _ (ap (λ n. min n most_counted) (mul_comm a.value b.value))
 
 plain : Plain count_ops
 plain = record {

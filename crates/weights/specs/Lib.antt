@@ -14,3 +14,4 @@ pub mod MinutesLaws
 pub mod PartsLaws
 pub mod Digits
 pub mod PossibleLaws
+pub mod Texts

@@ -2,7 +2,7 @@
 use Rattle.std.specs.Prelude.{◌≡◌, ◌⊎◌, refl}
 use Rattle.std.proofs.Common.{inl, inr, arith}
 use Rattle.std.proofs.Math.Decide.{dec_le}
-use Rattle.weights.specs.Semiring.{Plain, Laws, RankedLaws}
+use Rattle.weights.specs.Semiring.{Plain, Laws, Commutes, RankedLaws}
 use Rattle.weights.specs.Capped.{Upto, same_value, value_of, smaller}
 use Rattle.weights.specs.Minutes.{most_minutes, minutes_ops}
 use Rattle.weights.specs.Bounded.{bounded_settles}
@@ -21,6 +21,10 @@ picks a b = elim (dec_le a.value b.value) [
 -- minutes are ranked: the fewer are the better
 pub minutes_ranked : RankedLaws minutes_ops
 minutes_ranked = record { picks = picks; bounded = bounded }
+
+-- a sum does not mind the order
+pub minutes_commutes : Commutes minutes_ops
+minutes_commutes a b = same_value _ _ (omega arith)
 
 plain : Plain minutes_ops
 plain = record {

@@ -1,12 +1,13 @@
 // Count: how many explanations there are. 65,535 means that many or more.
+ghost use Rattle.std.specs.Prelude.{refl};
 ghost use Rattle.weights.specs.Capped.{Upto};
 ghost use Rattle.weights.specs.Count.{most_counted, count_meaning, count_ops, count_weighs};
-ghost use Rattle.weights.specs.CountLaws.{count_laws};
+ghost use Rattle.weights.specs.CountLaws.{count_laws, count_commutes};
 
 use crate::arcs::ArcRecord;
 use crate::{Commutative, Weight};
 
-#[derive(Clone, Copy)]
+#[derive(Clone, Copy, PartialEq, Eq, Debug)]
 pub struct Count(pub u16);
 
 impl Weight for Count {
@@ -20,13 +21,17 @@ impl Weight for Count {
 
     ghost laws = { count_laws };
 
-    fn zero() -> Count {
-        Count(0)
-    }
+    ghost ZERO = { record { 0 = 0 } };
 
-    fn one() -> Count {
-        Count(1)
-    }
+    const ZERO: Count = Count(0);
+
+    ghost ONE = { record { 0 = 1 } };
+
+    const ONE: Count = Count(1);
+
+    ghost zero_means = { refl };
+
+    ghost one_means = { refl };
 
     fn plus(self, other: Count) -> Count {
         Count(self.0.saturating_add(other.0))
@@ -50,12 +55,10 @@ impl Weight for Count {
     }
 
     fn same(self, other: Count) -> bool {
-        self.0 == other.0
+        self == other
     }
 }
 
 impl Commutative for Count {
-    fn commutes() -> bool {
-        true
-    }
+    ghost times_commutes = { count_commutes };
 }

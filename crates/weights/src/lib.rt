@@ -1,6 +1,6 @@
 // Kinds of weight: what a path through a fault chart may be measured in.
 // A kind is a semiring whose star is a finite sum; all that is built above rests on these promises alone.
-#![tactic(auto)]
+#![tactic(auto, using(crate::proofs::Meanings::same_capped, crate::proofs::Meanings::smaller_capped, crate::proofs::Meanings::larger_capped, crate::proofs::Meanings::plus_capped, crate::proofs::Meanings::times_capped))]
 
 pub mod arcs;
 pub mod count;
@@ -28,13 +28,15 @@ pub trait Weight: Copy {
     // the weight of an arc, over plain numbers: a definition cannot make an `ArcRecord`, whose ranges it would have to prove
     ghost weighs: { (minutes grade parts : ℕ) → Carrier };
 
+    ghost ZERO: { Self };
+
     // No way at all: joined with a weight it changes nothing, chained with one it gives itself.
-    fn zero() -> Self
-        ensures { meaning result ≡ ops.nil };
+    const ZERO: Self;
+
+    ghost ONE: { Self };
 
     // A way that costs nothing: chained with a weight it changes nothing.
-    fn one() -> Self
-        ensures { meaning result ≡ ops.unit };
+    const ONE: Self;
 
     // The join: one way or the other.
     fn plus(self, other: Self) -> Self
@@ -56,6 +58,11 @@ pub trait Weight: Copy {
     fn same(self, other: Self) -> bool
         ensures { Decides result (meaning self ≡ meaning other) };
 
+    // what zero and one mean
+    ghost zero_means: { meaning ZERO ≡ ops.nil };
+
+    ghost one_means: { meaning ONE ≡ ops.unit };
+
     // what each kind proves of its operations
     ghost laws: { Laws ops };
 }
@@ -64,7 +71,13 @@ pub trait Weight: Copy {
 pub trait Commutative: Weight {
     fn commutes() -> bool
         ensures says { result ≡ true }
-        ensures law_holds { Commutes Self.Weight.ops };
+        ensures law_holds { Commutes Self.Weight.ops }
+    {
+        true
+    }
+
+    // what each kind proves of its chain
+    ghost times_commutes: { Commutes Self.Weight.ops };
 }
 
 // A kind whose join picks one of the two weights, and in which nothing is better than one.
@@ -73,4 +86,7 @@ pub trait Ranked: Weight {
     fn keep(self, other: Self) -> bool
         ensures says { Decides result (Self.Weight.ops.plus (Self.Weight.meaning self) (Self.Weight.meaning other) ≡ Self.Weight.meaning self) }
         ensures laws_hold { RankedLaws Self.Weight.ops };
+
+    // what each kind proves of its join
+    ghost ranked_laws: { RankedLaws Self.Weight.ops };
 }

@@ -1,12 +1,13 @@
 // Minutes: the shortest time. A sum is stopped at the largest number, which means that there is no way.
+ghost use Rattle.std.specs.Prelude.{refl};
 ghost use Rattle.weights.specs.Capped.{Upto};
 ghost use Rattle.weights.specs.Minutes.{most_minutes, minutes_meaning, minutes_ops, minutes_weighs};
-ghost use Rattle.weights.specs.MinutesLaws.{minutes_laws};
+ghost use Rattle.weights.specs.MinutesLaws.{minutes_laws, minutes_commutes, minutes_ranked};
 
 use crate::arcs::ArcRecord;
 use crate::{Commutative, Ranked, Weight};
 
-#[derive(Clone, Copy)]
+#[derive(Clone, Copy, PartialEq, Eq, Debug)]
 pub struct Minutes(pub u32);
 
 impl Weight for Minutes {
@@ -20,13 +21,17 @@ impl Weight for Minutes {
 
     ghost laws = { minutes_laws };
 
-    fn zero() -> Minutes {
-        Minutes(u32::MAX)
-    }
+    ghost ZERO = { record { 0 = 4294967295 } };
 
-    fn one() -> Minutes {
-        Minutes(0)
-    }
+    const ZERO: Minutes = Minutes(u32::MAX);
+
+    ghost ONE = { record { 0 = 0 } };
+
+    const ONE: Minutes = Minutes(0);
+
+    ghost zero_means = { refl };
+
+    ghost one_means = { refl };
 
     fn plus(self, other: Minutes) -> Minutes {
         Minutes(self.0.min(other.0))
@@ -45,18 +50,19 @@ impl Weight for Minutes {
     }
 
     fn same(self, other: Minutes) -> bool {
-        self.0 == other.0
+        self == other
     }
 }
 
 impl Commutative for Minutes {
-    fn commutes() -> bool {
-        true
-    }
+    ghost times_commutes = { minutes_commutes };
 }
 
 // The fewer minutes are the better.
 impl Ranked for Minutes {
+    ghost ranked_laws = { minutes_ranked };
+
+    #[tactic(auto, using(crate::specs::MinutesLaws::minutes_ranked, crate::proofs::Meanings::keeps_smaller))]
     fn keep(self, other: Minutes) -> bool {
         self.0 <= other.0
     }

@@ -1,12 +1,13 @@
 // Parts: the spare parts that every explanation asks for, a bit for each. All bits set means that there is no way.
+ghost use Rattle.std.specs.Prelude.{refl};
 ghost use Rattle.weights.specs.Capped.{Upto};
 ghost use Rattle.weights.specs.Parts.{all_parts, parts_meaning, parts_ops, parts_weighs};
-ghost use Rattle.weights.specs.PartsLaws.{parts_laws};
+ghost use Rattle.weights.specs.PartsLaws.{parts_laws, parts_commutes};
 
 use crate::arcs::ArcRecord;
 use crate::{Commutative, Weight};
 
-#[derive(Clone, Copy)]
+#[derive(Clone, Copy, PartialEq, Eq, Debug)]
 pub struct Parts(pub u32);
 
 impl Weight for Parts {
@@ -20,13 +21,17 @@ impl Weight for Parts {
 
     ghost laws = { parts_laws };
 
-    fn zero() -> Parts {
-        Parts(u32::MAX)
-    }
+    ghost ZERO = { record { 0 = 4294967295 } };
 
-    fn one() -> Parts {
-        Parts(0)
-    }
+    const ZERO: Parts = Parts(u32::MAX);
+
+    ghost ONE = { record { 0 = 0 } };
+
+    const ONE: Parts = Parts(0);
+
+    ghost zero_means = { refl };
+
+    ghost one_means = { refl };
 
     fn plus(self, other: Parts) -> Parts {
         Parts(self.0 & other.0)
@@ -45,12 +50,10 @@ impl Weight for Parts {
     }
 
     fn same(self, other: Parts) -> bool {
-        self.0 == other.0
+        self == other
     }
 }
 
 impl Commutative for Parts {
-    fn commutes() -> bool {
-        true
-    }
+    ghost times_commutes = { parts_commutes };
 }

@@ -1,12 +1,12 @@
 // Possible: is there a way at all?
-ghost use Rattle.std.specs.Prelude.{Bool};
+ghost use Rattle.std.specs.Prelude.{Bool, true, false, refl};
 ghost use Rattle.weights.specs.Possible.{possible_meaning, possible_ops, possible_weighs};
-ghost use Rattle.weights.specs.PossibleLaws.{possible_laws};
+ghost use Rattle.weights.specs.PossibleLaws.{possible_laws, possible_commutes, possible_ranked};
 
 use crate::arcs::ArcRecord;
 use crate::{Commutative, Ranked, Weight};
 
-#[derive(Clone, Copy)]
+#[derive(Clone, Copy, PartialEq, Eq, Debug)]
 pub struct Possible(pub bool);
 
 impl Weight for Possible {
@@ -20,13 +20,17 @@ impl Weight for Possible {
 
     ghost laws = { possible_laws };
 
-    fn zero() -> Possible {
-        Possible(false)
-    }
+    ghost ZERO = { record { 0 = false } };
 
-    fn one() -> Possible {
-        Possible(true)
-    }
+    const ZERO: Possible = Possible(false);
+
+    ghost ONE = { record { 0 = true } };
+
+    const ONE: Possible = Possible(true);
+
+    ghost zero_means = { refl };
+
+    ghost one_means = { refl };
 
     fn plus(self, other: Possible) -> Possible {
         Possible(self.0 || other.0)
@@ -45,18 +49,18 @@ impl Weight for Possible {
     }
 
     fn same(self, other: Possible) -> bool {
-        self.0 == other.0
+        self == other
     }
 }
 
 impl Commutative for Possible {
-    fn commutes() -> bool {
-        true
-    }
+    ghost times_commutes = { possible_commutes };
 }
 
 // A way is better than none.
 impl Ranked for Possible {
+    ghost ranked_laws = { possible_ranked };
+
     fn keep(self, other: Possible) -> bool {
         self.0 || !other.0
     }

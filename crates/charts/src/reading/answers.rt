@@ -1,69 +1,72 @@
 // What a chart answers, for every number that is asked.
-ghost use Rattle.std.specs.Prelude.{◌≡◌, length, slice_index};
+ghost use Rattle.std.specs.Prelude.{◌≡◌, true, length, slice_index};
 ghost use Rattle.std.specs.Option.{option_map};
 ghost use Rattle.std.specs.List.{slice_get};
 ghost use Rattle.charts.specs.Arcs.{row_of_arc};
-ghost use Rattle.charts.specs.Charts.{view};
+ghost use Rattle.charts.specs.Held.{fits};
 ghost use Rattle.charts.specs.Views.{starts, ends};
 
 use super::Chart;
-use crate::arcs::{Arc, read_arc};
+use crate::arcs::{Arc, Arcs, read_arc};
 
-impl Chart {
+impl<'a> Chart<'a> {
     // How many states the chart has; they are numbered from 0.
     pub fn states(&self) -> usize
-        ensures { result ≡ (view self.now).states }
+        ensures value { result ≡ self.now.states }
+        ensures fits { fits self.now ≡ true }
     {
-        self.states
+        self.marks.len()
     }
 
     // How many letters the chart has; they are numbered from 1.
     pub fn letters(&self) -> u8
-        ensures { result ≡ (view self.now).letters }
+        ensures { result ≡ self.now.letters }
     {
         self.letters
     }
 
     // How many arcs the chart has; they are numbered from 0.
     pub fn arcs(&self) -> usize
-        ensures { result ≡ length (view self.now).arc_rows }
+        ensures { result ≡ length self.now.arc_rows }
     {
-        self.arcs
+        self.rows.len()
     }
 
-    // Does a path begin in this state? A state that the chart does not have is no start.
+    // Does a path begin in this state? A state that the chart does not have is no start. This and the next are two calls, since
+    // `is_marked(state, START)` would say no more than `is_start(state)`.
     pub fn is_start(&self, state: usize) -> bool
-        ensures { result ≡ starts (view self.now) state }
+        ensures { result ≡ starts self.now state }
     {
         self.mark(state) & 1 != 0
     }
 
     // Does a path end in this state? A state that the chart does not have is no end.
     pub fn is_end(&self, state: usize) -> bool
-        ensures { result ≡ ends (view self.now) state }
+        ensures { result ≡ ends self.now state }
     {
         self.mark(state) & 2 != 0
     }
 
     // The row of a state, or 0 where there is no such state.
     fn mark(&self, state: usize) -> u8
-        ensures { result ≡ slice_index (view self.now).state_rows state }
+        ensures { result ≡ slice_index self.now.state_rows state }
     {
-        if state < self.states {
-            self.marks[state]
-        } else {
-            0
-        }
+        self.marks.get(state).copied().unwrap_or(0)
     }
 
     // The arc of this number, or none where the chart has fewer.
     pub fn arc(&self, number: usize) -> Option<Arc>
-        ensures { option_map row_of_arc result ≡ slice_get (view self.now).arc_rows number }
+        ensures { option_map row_of_arc result ≡ slice_get self.now.arc_rows number }
     {
-        if number < self.arcs {
-            read_arc(self.states, self.letters, &self.rows[number])
-        } else {
-            None
-        }
+        let row = self.rows.get(number)?;
+        read_arc(self.marks.len(), self.letters, row)
+    }
+
+    // The arcs, from that of number 0 on.
+    pub fn arcs_in_order(&self) -> Arcs<'a>
+        ensures value { result ≡ self.now.arc_rows }
+        ensures fits { fits self.now ≡ true }
+    {
+        Arcs::new(self.marks.len(), self.letters, self.rows)
     }
 }

@@ -1,52 +1,48 @@
 // Clearing a chart with memory that suffices, and with less.
 use crate::files::SAMPLE;
-use crate::memory::{check_rest, filled, outcome};
+use crate::memory::Filled;
 use charts::Chart;
+use charts::Refusal::{self, Memory};
 use machines::clearing::clear;
-use std::alloc::Global;
 use std::process::Abort;
 use std::test::Fail;
 use weights::count::Count;
 
-// How long the silent table, the scratch and the machine's table are, and the outcome.
-struct Call(&'static str, usize, usize, usize, u8);
+// How long the silent table, the scratch and the machine's table are, and the answer.
+struct Call(&'static str, usize, usize, usize, Result<(), Refusal>);
 
 // Three states and two letters want 9, 9 and 24 weights.
 static CALLS: [Call; 6] = [
-    Call("enough", 9, 9, 24, 0),
-    Call("more", 10, 12, 29, 0),
-    Call("silent one short", 8, 9, 24, 7),
-    Call("scratch one short", 9, 8, 24, 7),
-    Call("table one short", 9, 9, 23, 7),
-    Call("nothing", 0, 0, 0, 7),
+    Call("enough", 9, 9, 24, Ok(())),
+    Call("more", 10, 12, 29, Ok(())),
+    Call("silent one short", 8, 9, 24, Err(Memory)),
+    Call("scratch one short", 9, 8, 24, Err(Memory)),
+    Call("table one short", 9, 9, 23, Err(Memory)),
+    Call("nothing", 0, 0, 0, Err(Memory)),
 ];
 
-fn check_call(rt: &impl Abort, heap: Global, chart: &Chart, call: &Call) -> Result<(), Fail> {
+fn check_call(rt: &(impl Abort + AllocGlobal), chart: &Chart, call: &Call) -> Result<(), Fail> {
     let Call(name, silent_length, scratch_length, table_length, expected) = *call;
-    let mut silent = filled(heap, Count(7), silent_length)?;
-    let mut scratch = filled(heap, Count(8), scratch_length)?;
-    let mut table = filled(heap, Count(9), table_length)?;
+    let mut silent = Filled::new(rt, Count(7), silent_length)?;
+    let mut scratch = Filled::new(rt, Count(8), scratch_length)?;
+    let mut table = Filled::new(rt, Count(9), table_length)?;
     let answer = clear(
         chart,
-        silent.as_mut_slice(),
-        scratch.as_mut_slice(),
-        table.as_mut_slice(),
+        silent.weights.as_mut_slice(),
+        scratch.weights.as_mut_slice(),
+        table.weights.as_mut_slice(),
     );
-    let outcome = outcome(answer);
-    assert_eq!(rt; outcome, expected, "{name}");
-    check_rest(rt, name, silent.as_slice(), outcome, 9, Count(7));
-    check_rest(rt, name, scratch.as_slice(), outcome, 9, Count(8));
-    check_rest(rt, name, table.as_slice(), outcome, 24, Count(9));
+    assert_eq!(rt; answer, expected, "{name}");
+    silent.check_rest(rt, name, answer, 9);
+    scratch.check_rest(rt, name, answer, 9);
+    table.check_rest(rt, name, answer, 24);
     Ok(())
 }
 
 #[test]
 fn clearing_limits(rt: HostRuntime) -> Result<(), Fail> {
-    let Ok(chart) = Chart::read(SAMPLE) else {
-        return Err(Fail::new("refused"));
-    };
-    for call in &CALLS {
-        check_call(&rt, rt.alloc(), &chart, call)?;
-    }
-    Ok(())
+    let chart = Chart::read(SAMPLE)?;
+    CALLS
+        .iter()
+        .try_for_each(|call| check_call(&rt, &chart, call))
 }

@@ -1,6 +1,5 @@
 // The kinds whose join picks one of the two weights.
-use super::{Kind, Loop, Pair, Rank, Same, check_kind, check_ranks};
-use std::test::Fail;
+use super::{Kind, Loop, Pair, Rank, Same, check_ranked};
 use weights::grade::Grade;
 use weights::minutes::Minutes;
 use weights::possible::Possible;
@@ -110,22 +109,16 @@ static POSSIBLE_RANKS: [Rank<Possible>; 3] = [
 ];
 
 #[test]
-fn minutes(rt: HostRuntime) -> Result<(), Fail> {
-    check_kind(&rt, &MINUTES)?;
-    check_ranks(&rt, &MINUTES_RANKS);
-    Ok(())
+fn minutes(rt: HostRuntime) {
+    check_ranked(&rt, &MINUTES, &MINUTES_RANKS);
 }
 
 #[test]
-fn grade(rt: HostRuntime) -> Result<(), Fail> {
-    check_kind(&rt, &GRADE)?;
-    check_ranks(&rt, &GRADE_RANKS);
-    Ok(())
+fn grade(rt: HostRuntime) {
+    check_ranked(&rt, &GRADE, &GRADE_RANKS);
 }
 
 #[test]
-fn possible(rt: HostRuntime) -> Result<(), Fail> {
-    check_kind(&rt, &POSSIBLE)?;
-    check_ranks(&rt, &POSSIBLE_RANKS);
-    Ok(())
+fn possible(rt: HostRuntime) {
+    check_ranked(&rt, &POSSIBLE, &POSSIBLE_RANKS);
 }

@@ -9,9 +9,9 @@ pub write_pairs-requires-2 : goal.write_pairs-requires-2
 write_pairs-requires-2 g c =
     let s = c.states.result * c.states-2.result in
     let pairs : length c.ends.result.now * length c.ends-2.result.now ≡ s =
-    ap₂ ◌*◌ (c.ends.ensures.len ∙ sym c.states.ensures) (c.ends-2.ensures.len ∙ sym c.states-2.ensures) in
+    ap₂ ◌*◌ (c.ends.ensures.len ∙ sym c.states.ensures.value) (c.ends-2.ensures.len ∙ sym c.states-2.ensures.value) in
     let first : length c.write_pairs.new.pairs ≡ s = search rules in
-    let states : s ≡ c.args.first.now.states * c.args.second.now.states = ap₂ ◌*◌ c.states.ensures c.states-2.ensures in
+    let states : s ≡ c.args.first.now.states * c.args.second.now.states = ap₂ ◌*◌ c.states.ensures.value c.states-2.ensures.value in
     let part : length (take (2 * s - s) (drop s (c.write_pairs.new.pairs ++ drop s c.args.table.now))) ≡ s = search rules in
     part ∙ sym pairs
 
@@ -23,7 +23,7 @@ returns g c =
     let second = c.args.second.now in
     let d = first.states * second.states in
     let s = c.states.result * c.states-2.result in
-    let states : s ≡ d = ap₂ ◌*◌ c.states.ensures c.states-2.ensures in
+    let states : s ≡ d = ap₂ ◌*◌ c.states.ensures.value c.states-2.ensures.value in
     let xs = c.write_pairs.new.pairs in
     let ys = c.write_pairs-2.new.pairs in
     let zs = c.write_pair_blocks.new.blocks in

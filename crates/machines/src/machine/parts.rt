@@ -1,8 +1,7 @@
 // Making a machine on a table, and the parts that it has.
-ghost use Rattle.std.specs.Prelude.{◌≡◌, ◌&&◌, [], length, if◌then◌else◌, nat_le};
-ghost use Rattle.machines.specs.Meant.{lent, made};
+ghost use Rattle.std.specs.Prelude.{◌≡◌, ◌&&◌, [], length, if◌then◌else◌, nat_le, nat_lt};
 ghost use Rattle.machines.specs.Questions.{machine_answer};
-ghost use Rattle.machines.specs.Shapes.{start_part, end_part, block_part};
+ghost use Rattle.machines.specs.Shapes.{Shaped, start_part, end_part, block_part, row_part};
 
 use super::Machine;
 use charts::Refusal;
@@ -10,9 +9,9 @@ use charts::Refusal;
 impl<'a, K> Machine<'a, K> {
     // The machine of so many states and letters whose weights lie at the front of a table.
     pub fn new(states: usize, letters: u8, table: &'a [K]) -> Result<Machine<'a, K>, Refusal>
-        ensures { made result ≡ machine_answer states letters table.now }
+        ensures { result ≡ machine_answer states letters table.now }
     {
-        if states < 1 || states > 64 || letters < 1 || letters > 15 {
+        if !(1..=64).contains(&states) || !(1..=15).contains(&letters) {
             return Err(Refusal::Limits);
         }
         if table.len() < 2 * states + usize::from(letters) * (states * states) {
@@ -27,43 +26,56 @@ impl<'a, K> Machine<'a, K> {
 
     // How many states the machine has; they are numbered from 0.
     pub fn states(&self) -> usize
-        ensures { result ≡ (lent self.now).states }
+        ensures value { result ≡ self.now.states }
+        ensures shaped { Shaped self.now.states self.now.letters self.now.table }
     {
         self.states
     }
 
     // How many letters the machine has; they are numbered from 1.
     pub fn letters(&self) -> u8
-        ensures { result ≡ (lent self.now).letters }
+        ensures { result ≡ self.now.letters }
     {
         self.letters
     }
 
-    // The start weights, one for each state.
+    // The start weights, one for each state. This and the next are two calls, since a part with a number would say less.
     pub fn starts(&self) -> &[K]
-        ensures value { result.now ≡ start_part (lent self.now).states (lent self.now).table }
-        ensures len { length result.now ≡ (lent self.now).states }
+        ensures value { result.now ≡ start_part self.now.states self.now.table }
+        ensures len { length result.now ≡ self.now.states }
     {
         &self.table[..self.states]
     }
 
     // The end weights, one for each state.
     pub fn ends(&self) -> &[K]
-        ensures value { result.now ≡ end_part (lent self.now).states (lent self.now).table }
-        ensures len { length result.now ≡ (lent self.now).states }
+        ensures value { result.now ≡ end_part self.now.states self.now.table }
+        ensures len { length result.now ≡ self.now.states }
     {
         &self.table[self.states..2 * self.states]
     }
 
-    // The block of a letter, row by row; it is empty where the machine has no such letter.
+    // The block of a letter, row by row; it is empty where the machine has no such letter. Not `None`: this call fails nowhere.
     pub fn block(&self, letter: u8) -> &[K]
-        ensures { result.now ≡ (if nat_le 1 letter && nat_le letter (lent self.now).letters then block_part (lent self.now).states letter (lent self.now).table else []) }
+        ensures { result.now ≡ (if nat_le 1 letter && nat_le letter self.now.letters then block_part self.now.states letter self.now.table else []) }
     {
-        if letter < 1 || letter > self.letters {
+        if !(1..=self.letters).contains(&letter) {
             return &self.table[..0];
         }
         let size = self.states * self.states;
         let begin = 2 * self.states + (usize::from(letter) - 1) * size;
         &self.table[begin..begin + size]
+    }
+
+    // The row of a state in the block of a letter; it is empty where the machine has no such letter or no such state.
+    pub fn row(&self, letter: u8, state: usize) -> &[K]
+        ensures { result.now ≡ (if nat_le 1 letter && nat_le letter self.now.letters && nat_lt state self.now.states then row_part self.now.states letter state self.now.table else []) }
+    {
+        if !(1..=self.letters).contains(&letter) || state >= self.states {
+            return &self.table[..0];
+        }
+        let block = self.block(letter);
+        let begin = state * self.states;
+        &block[begin..begin + self.states]
     }
 }

@@ -1,12 +1,6 @@
-use Rattle.std.proofs.Common.{refl, arith}
-use Rattle.machines.proofs.Places.{upto_none, upto_set, weight_read}
+use Rattle.std.proofs.Common.{arith}
+use Rattle.machines.proofs.Places.{before_set, weight_read}
 use Rattle.crossing.proofs.pairs.set_multiple.Goals as goal
-
-pub returns : goal.returns
-returns g c k h = c.loop-k.invariant.before k (omega arith)
-
-pub loop-k-init : goal.loop-k-init
-loop-k-init g c = upto_none (λ k. refl)
 
 pub loop-k-preserved : goal.loop-k-preserved
 loop-k-preserved g c =
@@ -14,4 +8,4 @@ loop-k-preserved g c =
     let meaning = g.K.Weight.meaning in
     let k = c.loop-k.k in
     let other = weight_read o meaning c.args.other.now k c.index-other-k.result (omega arith) c.index-other-k.is in
-    upto_set o meaning c.loop-k.row k c.times.result (omega arith) (cc) c.loop-k.invariant
+    before_set o meaning c.loop-k.row k c.times.result (omega arith) (cc) c.loop-k.invariant

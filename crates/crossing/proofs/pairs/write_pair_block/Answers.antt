@@ -1,77 +1,72 @@
-use Rattle.std.proofs.Common.{◌≡◌, ◌+◌, ◌-◌, ◌*◌, ◌≤◌, length, sym, ◌∙◌, ap₂, add-zero, add_assoc, suc-mul, zero-mul, add-one, arith, rules}
+use Rattle.std.proofs.Common.{◌≡◌, ◌+◌, ◌-◌, ◌*◌, ◌<◌, ◌≤◌, length, sym, ap, ◌∙◌, ap₂, add_assoc, arith, rules}
 use native.Mathlib.Nat.{add-sub_cancel_left}
-use lib.Arith.{digits_lt}
-use Rattle.crossing.proofs.Paired.{pair_row}
-use Rattle.machines.proofs.Places.{row_fits, length_part, upto_none, upto_at, upto_put}
+use borrow.Author.Rules.{scaled_fits≤}
+use Rattle.machines.specs.Shapes.{block_part}
+use Rattle.machines.proofs.Parts.{row_answered, row_long}
+use Rattle.machines.proofs.Places.{length_part, upto_at, upto_put}
+use Rattle.crossing.proofs.Paired.{pair_row, pair_row_fits}
 use Rattle.crossing.proofs.pairs.write_pair_block.Goals as goal
 
-pub loop-p-init : goal.loop-p-init
-loop-p-init g c = upto_at (sym (zero-mul c.args.columns)) (upto_none (λ r. tt))
+pub offset_bounds-block-begin : goal.offset_bounds-block-begin
+offset_bounds-block-begin g c =
+    let h = pair_row_fits _ _ c.states-rows.ensures.value c.states-columns.ensures.value c.requires.fits c.loop-p-test.true c.loop-q-test.true in
+    let states = c.states-rows.result * c.states-columns.result in
+    let before : (c.loop-p.p * c.states-columns.result + c.loop-q.q) * states ≤ length c.args.block.now = omega arith in
+    search scaled_fits≤
 
-pub loop-q-init : goal.loop-q-init
-loop-q-init g c = upto_at (sym (add-zero (c.loop-p.p * c.args.columns))) c.loop-p.invariant
+pub slice_bounds-write_pairs-end : goal.slice_bounds-write_pairs-end
+slice_bounds-write_pairs-end g c =
+    let h = pair_row_fits _ _ c.states-rows.ensures.value c.states-columns.ensures.value (c.loop-q.auto.block ∙ c.loop-p.auto.block ∙ c.requires.fits)
+    c.loop-p-test.true c.loop-q-test.true in
+    search rules
+
+pub write_pairs-requires : goal.write_pairs-requires
+write_pairs-requires g c =
+    let first = c.args.first.now in
+    let second = c.args.second.now in
+    let rows = c.states-rows.ensures in
+    let columns = c.states-columns.ensures in
+    let d = c.states-rows.result * c.states-columns.result in
+    let i = c.loop-p.p * c.states-columns.result + c.loop-q.q in
+    let fits = pair_row_fits _ _ rows.value columns.value (c.loop-q.auto.block ∙ c.loop-p.auto.block ∙ c.requires.fits) c.loop-p-test.true c.loop-q-test.true in
+    let above : c.loop-p.p < first.states = omega arith in
+    let below : c.loop-q.q < second.states = omega arith in
+    let upper = row_answered first.states first.letters c.args.letter c.loop-p.p first.table c.row-upper.result.now (omega arith) (omega arith) above c.row-upper.ensures in
+    let lower = row_answered second.states second.letters c.args.letter c.loop-q.q second.table c.row-lower.result.now (omega arith) (omega arith) below c.row-lower.ensures in
+    let long = ap length upper ∙ row_long first.states first.letters c.args.letter c.loop-p.p first.table (omega arith) (omega arith) above rows.shaped.4 in
+    let wide = ap length lower ∙ row_long second.states second.letters c.args.letter c.loop-q.q second.table (omega arith) (omega arith) below columns.shaped.4 in
+    length_part (i * d) d c.loop-q.block fits ∙ sym (ap₂ ◌*◌ (long ∙ sym rows.value) (wide ∙ sym columns.value))
 
 pub loop-q-preserved : goal.loop-q-preserved
 loop-q-preserved g c =
     let o = g.K.Weight.ops in
     let meaning = g.K.Weight.meaning in
-    let m = c.args.rows in
-    let n = c.args.columns in
+    let first = c.args.first.now in
+    let second = c.args.second.now in
+    let m = first.states in
+    let n = second.states in
+    let a = c.args.letter in
     let p = c.loop-p.p in
     let q = c.loop-q.q in
     let d = m * n in
     let i = p * n + q in
     let row = c.write_pairs.new.pairs in
-    let fits : i * d + d ≤ length c.loop-q.block =
-    row_fits d {m = d} (c.loop-q.auto.block ∙ c.loop-p.auto.block ∙ c.requires.fits) (digits_lt c.loop-p-test.true c.loop-q-test.true) in
-    let pairs = pair_row o meaning m n p q c.args.first.now c.args.second.now c.row_of-upper.result.now c.row_of-lower.result.now row
-    c.loop-q-test.true c.row_of-upper.ensures.value c.row_of-lower.ensures.value c.row_of-upper.ensures.len c.row_of-lower.ensures.len
-    c.write_pairs.ensures in
-    let long = c.write_pairs.auto.pairs ∙ length_part (i * d) d c.loop-q.block fits in
-    upto_at (add_assoc (p * n) q 1)
-    (upto_put o meaning d i (i * d + d - i * d) c.loop-q.block row (add-sub_cancel_left (i * d) d) (omega arith) long pairs (λ r x u. tt) c.loop-q.invariant)
-
-pub loop-p-preserved : goal.loop-p-preserved
-loop-p-preserved g c =
-    let n = c.args.columns in
-    let p = c.loop-p.p in
-    let left : n ≤ c.loop-q.q = c.loop-q-test.false in
-    let end : c.loop-q.q ≤ n = c.loop-q.auto.q-end in
-    let all : c.loop-q.q ≡ n = omega arith in
-    let next : p * n + c.loop-q.q ≡ (p + 1) * n = rw (all, add-one p, suc-mul p n) in
-    upto_at next c.loop-q.invariant
-
-pub returns : goal.returns
-returns g c i k h l =
-    let all : c.loop-p.p ≡ c.args.rows = omega arith in
-    c.loop-p.invariant.before i (rw all h) k l
-
-pub row_of-upper-requires : goal.row_of-upper-requires
-row_of-upper-requires g c = row_fits c.args.rows c.requires.given.0 c.loop-p-test.true
-
-pub row_of-lower-requires : goal.row_of-lower-requires
-row_of-lower-requires g c = row_fits c.args.columns c.requires.given.1 c.loop-q-test.true
-
-pub write_pairs-requires : goal.write_pairs-requires
-write_pairs-requires g c =
-    let d = c.args.rows * c.args.columns in
-    let i = c.loop-p.p * c.args.columns + c.loop-q.q in
-    let fits : i * d + d ≤ length c.loop-q.block =
-    row_fits d {m = d} (c.loop-q.auto.block ∙ c.loop-p.auto.block ∙ c.requires.fits) (digits_lt c.loop-p-test.true c.loop-q-test.true) in
-    length_part (i * d) d c.loop-q.block fits ∙ sym (ap₂ ◌*◌ c.row_of-upper.ensures.len c.row_of-lower.ensures.len)
-
-pub offset_bounds-block-begin : goal.offset_bounds-block-begin
-offset_bounds-block-begin g c =
-    let d = c.args.rows * c.args.columns in
-    let i = c.loop-p.p * c.args.columns + c.loop-q.q in
-    let fits : i * d + d ≤ length c.loop-q.block =
-    row_fits d {m = d} (c.loop-q.auto.block ∙ c.loop-p.auto.block ∙ c.requires.fits) (digits_lt c.loop-p-test.true c.loop-q-test.true) in
-    search rules
-
-pub slice_bounds-write_pairs-end : goal.slice_bounds-write_pairs-end
-slice_bounds-write_pairs-end g c =
-    let d = c.args.rows * c.args.columns in
-    let i = c.loop-p.p * c.args.columns + c.loop-q.q in
-    let fits : i * d + d ≤ length c.loop-q.block =
-    row_fits d {m = d} (c.loop-q.auto.block ∙ c.loop-p.auto.block ∙ c.requires.fits) (digits_lt c.loop-p-test.true c.loop-q-test.true) in
-    search rules
+    let rows = c.states-rows.ensures in
+    let columns = c.states-columns.ensures in
+    let fits = pair_row_fits _ _ rows.value columns.value (c.loop-q.auto.block ∙ c.loop-p.auto.block ∙ c.requires.fits) c.loop-p-test.true c.loop-q-test.true in
+    let above : p < m = omega arith in
+    let below : q < n = omega arith in
+    let upper = row_answered m first.letters a p first.table c.row-upper.result.now (omega arith) (omega arith) above c.row-upper.ensures in
+    let lower = row_answered n second.letters a q second.table c.row-lower.result.now (omega arith) (omega arith) below c.row-lower.ensures in
+    let long = ap length upper ∙ row_long m first.letters a p first.table (omega arith) (omega arith) above rows.shaped.4 in
+    let wide = ap length lower ∙ row_long n second.letters a q second.table (omega arith) (omega arith) below columns.shaped.4 in
+    let pairs = pair_row o meaning m n p q (block_part m a first.table) (block_part n a second.table) c.row-upper.result.now c.row-lower.result.now
+    row below upper lower long wide c.write_pairs.ensures in
+    let code = c.states-rows.result * c.states-columns.result in
+    let whole : length row ≡ d =
+    c.write_pairs.auto.pairs ∙ length_part ((p * c.states-columns.result + q) * code) code c.loop-q.block fits ∙ ap₂ ◌*◌ rows.value columns.value in
+    let room : i * d + d ≤ length c.loop-q.block = rw (rows.value, columns.value) at fits in
+    let done = rw (rows.value, columns.value) at c.loop-q.invariant in
+    rw (rows.value, columns.value)
+    (upto_at (add_assoc (p * n) q 1)
+    (upto_put o meaning d i (i * d + d - i * d) c.loop-q.block row (add-sub_cancel_left (i * d) d) (omega arith) whole pairs (λ r x u. tt) done))

@@ -1,6 +1,6 @@
 use Rattle.std.proofs.Common.{◌+◌, ◌*◌}
-use Rattle.crossing.specs.Crossings.{pair_table}
-use Rattle.machines.specs.Tables.{table_of}
+use Rattle.machines.specs.Machine.{crossed}
+use Rattle.machines.specs.Meant.{meant}
 use Rattle.machines.proofs.Places.{Upto, RowIs}
 use Rattle.crossing.proofs.pairs.write_pair_block.Given as goal
 
@@ -8,12 +8,12 @@ abbrev pub invariant-loop-p : goal.invariant-loop-p
 invariant-loop-p g l =
     let o = g.K.Weight.ops in
     let meaning = g.K.Weight.meaning in
-    let pairs = pair_table o l.columns (table_of o meaning l.rows l.first) (table_of o meaning l.columns l.second) in
+    let pairs = (crossed o (meant o meaning l.first) (meant o meaning l.second)).block l.letter in
     Upto (λ r. RowIs o meaning l.states l.block r (pairs r)) (λ r. Unit) (l.p * l.columns)
 
 abbrev pub invariant-loop-q : goal.invariant-loop-q
 invariant-loop-q g l =
     let o = g.K.Weight.ops in
     let meaning = g.K.Weight.meaning in
-    let pairs = pair_table o l.columns (table_of o meaning l.rows l.first) (table_of o meaning l.columns l.second) in
+    let pairs = (crossed o (meant o meaning l.first) (meant o meaning l.second)).block l.letter in
     Upto (λ r. RowIs o meaning l.states l.block r (pairs r)) (λ r. Unit) (l.p * l.columns + l.q)

@@ -1,9 +1,7 @@
 use Rattle.std.proofs.Common.{◌≡◌, ◌-◌, ◌*◌, length, sym, refl, ◌∙◌, arith, rules}
 use Rattle.charts.specs.Automaton.{automaton}
-use Rattle.charts.specs.Charts.{view}
-use Rattle.charts.proofs.Fitting.{fitted}
 use Rattle.machines.specs.Machine.{arc_table, cleared_by}
-use Rattle.machines.specs.Tables.{table_of}
+use Rattle.machines.specs.Matrix.{matrix_of}
 use Rattle.machines.proofs.Laid.{laid, laid_alike}
 use Rattle.machines.proofs.Told.{alike_trans, closed_from, cleared_cong}
 use Rattle.machines.proofs.clearing.clear_into.Goals as goal
@@ -13,12 +11,11 @@ returns g c =
     let o = g.K.Weight.ops in
     let meaning = g.K.Weight.meaning in
     let plain = g.met.K.Weight.laws.plain in
-    let v = view c.args.chart.now in
+    let v = c.args.chart.now in
     let d = v.states in
-    let states = c.states-states.ensures in
+    let states = c.states-states.ensures.value in
     let a = automaton g.K.Weight.weighs v in
-    let silent = c.write_silent.new.table in
-    let shut = c.close.new.table in
+    let shut = c.close.new.self in
     let xs = c.write_starts.new.row in
     let ys = c.write_ends.new.row in
     let zs = c.write_blocks.new.blocks in
@@ -29,14 +26,7 @@ returns g c =
     let parts = laid o meaning d v.letters table xs ys zs starts_long ends_long blocks_long c.requires.fits (2 * d - d) (length table - 2 * d) (omega arith) (omega arith) in
     let first = sym c.write_starts.auto.row ∙ starts_long in
     let second = sym c.write_ends.auto.row ∙ ends_long in
-    let closes = closed_from o meaning c.states-states.result d states (arc_table o a 0) silent shut c.write_silent.ensures c.close.ensures in
-    let written = laid_alike (cleared_by o a (table_of o meaning d shut)) parts refl (rw first at c.write_starts.ensures) (rw second at c.write_ends.ensures)
+    let closes = closed_from o meaning d (arc_table o a 0) c.new-matrix.result c.write_silent.new.matrix shut (c.new-matrix.ensures.states ∙ states) c.write_silent.ensures c.close.ensures in
+    let written = laid_alike (cleared_by o a (matrix_of o meaning shut)) parts refl (rw first at c.write_starts.ensures) (rw second at c.write_ends.ensures)
     (λ a i k b u h l. c.write_blocks.ensures a i k b h l) in
     rw states (alike_trans refl written (cleared_cong plain a closes))
-
-pub close-requires : goal.close-requires
-close-requires g c =
-    let limits = (fitted (view c.args.chart.now) c.args.chart.now.held.4).limits in
-    let few = limits.few_states in
-    let states = c.states-states.ensures in
-    record { within = omega arith; fits = (rw states (c.write_silent.auto.table ∙ c.requires.closes.0), c.requires.closes.1 ∙ sym states) }

@@ -1,9 +1,8 @@
-use Rattle.std.proofs.Common.{◌≡◌}
+use Rattle.std.proofs.Common.{◌≡◌, ℕ, ◌<◌}
 use Rattle.machines.specs.Tables.{weight_at}
-use Rattle.machines.proofs.Places.{Upto}
 use Rattle.machines.proofs.vectors.fill_zero.Given as goal
 
-abbrev pub invariant-loop-k : goal.invariant-loop-k
-invariant-loop-k g l =
+abbrev pub invariant-loop-weight : goal.invariant-loop-weight
+invariant-loop-weight g l =
     let o = g.K.Weight.ops in
-    Upto (λ k. weight_at o g.K.Weight.meaning l.row k ≡ o.nil) (λ k. Unit) l.k
+    (k : ℕ) → k < l.weight-index → weight_at o g.K.Weight.meaning l.row k ≡ o.nil

@@ -1,13 +1,7 @@
-use Rattle.std.proofs.Common.{refl, ◌∙◌, arith}
-use Rattle.machines.proofs.Places.{upto_none, upto_set, weight_read}
+use Rattle.std.proofs.Common.{ap, ◌∙◌, arith}
+use Rattle.machines.proofs.Places.{upto_set, weight_read}
 use Rattle.machines.proofs.Sums.{nil_joined}
 use Rattle.machines.proofs.vectors.join_multiple.Goals as goal
-
-pub returns : goal.returns
-returns g c k h = c.loop-k.invariant.before k (omega arith)
-
-pub loop-k-init : goal.loop-k-init
-loop-k-init g c = upto_none (λ k. refl)
 
 pub loop-k-preserved : goal.loop-k-preserved
 loop-k-preserved g c =
@@ -22,4 +16,4 @@ loop-k-preserved g c =
 pub returns-then-same : goal.returns-then-same
 returns-then-same g c k h =
     let plain = g.met.K.Weight.laws.plain in
-    nil_joined plain (c.same.ensures.0 c.if-same.true ∙ c.zero.ensures)
+    nil_joined plain (c.same.ensures.0 c.if-same.true ∙ ap g.K.Weight.meaning c.ZERO.ensures ∙ g.met.K.Weight.zero_means)

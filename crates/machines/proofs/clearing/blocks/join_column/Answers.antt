@@ -1,38 +1,23 @@
-use Rattle.std.proofs.Common.{◌+◌, ◌*◌, sym, refl, ap, ◌∙◌, arith, rules}
-use Rattle.std.proofs.lemmas.Bool.{eq-eqb, ne_eqb, cond-true, cond-false}
-use Rattle.machines.proofs.Places.{row_fits, upto_none, upto_join, weight_read}
-use Rattle.machines.proofs.Sums.{plus_nil}
+use Rattle.std.proofs.Common.{ap, ◌∙◌, cond, eqb, refl, arith}
+use Rattle.machines.specs.Closure.{Table}
+use Rattle.machines.specs.Matrix.{matrix_of, entry_joined}
+use Rattle.machines.proofs.Matrices.{rows_joined, becomes_then, entry_more, row_read}
 use Rattle.machines.proofs.clearing.blocks.join_column.Goals as goal
-
-pub returns : goal.returns
-returns g c i k h l = c.loop-i.invariant.before i (omega arith) k l
-
-pub loop-i-init : goal.loop-i-init
-loop-i-init g c = upto_none (λ r q h. refl)
 
 pub loop-i-preserved : goal.loop-i-preserved
 loop-i-preserved g c =
     let o = g.K.Weight.ops in
     let meaning = g.K.Weight.meaning in
-    let plain = g.met.K.Weight.laws.plain in
-    let d = c.args.states in
+    let closed = c.args.closed.now in
+    let made = c.new-matrix.result in
     let i = c.loop-i.i in
+    let from = c.args.from in
     let to = c.args.to in
-    let closed = row_fits d c.requires.fits.0 c.loop-i-test.true in
-    let before = weight_read o meaning c.args.closed.now (i * d + c.args.from) c.index-closed-begin.result (omega arith) c.index-closed-begin.is in
-    let added = c.times-added.ensures ∙ ap (λ x. o.times x (meaning c.args.weight)) (sym before) in
-    upto_join o meaning d i to c.loop-i.block c.join_at.new.row c.requires.within.1.1 c.join_at.ensures
-    (ap (o.plus _) (added ∙ sym (cond-true _ _ o.nil (eq-eqb to to refl))))
-    (λ q y. sym (ap (o.plus _) (cond-false _ _ _ (ne_eqb to q (λ e. y (sym e)))) ∙ plus_nil plain _)) c.loop-i.invariant
-
-pub join_at-requires : goal.join_at-requires
-join_at-requires g c =
-    let h = row_fits c.args.states (c.loop-i.auto.block ∙ c.requires.fits.1) c.loop-i-test.true in
-    let t = c.requires.within.1.1 in
-    omega arith
-
-pub offset_bounds-closed-begin : goal.offset_bounds-closed-begin
-offset_bounds-closed-begin g c = let h = row_fits c.args.states c.requires.fits.0 c.loop-i-test.true in search rules
-
-pub bounds-closed-begin : goal.bounds-closed-begin
-bounds-closed-begin g c = let h = row_fits c.args.states c.requires.fits.0 c.loop-i-test.true in search rules
+    let weight = meaning c.args.weight in
+    let added = meaning c.times-added.result in
+    let read = row_read o meaning closed closed.states i from c.row.result.now c.index-row-from.result refl (omega arith) (omega arith) c.row.ensures.value c.index-row-from.is in
+    let here = c.times-added.ensures ∙ ap (λ x. o.times x weight) read in
+    let adds : Table g.K.Weight.Carrier = λ i k. cond (eqb to k) (o.times (matrix_of o meaning closed i from) weight) o.nil in
+    let old = matrix_of o meaning made in
+    becomes_then o meaning {t = rows_joined o i adds old} (entry_joined o i to added) c.loop-i.invariant c.join.ensures
+    (λ t. entry_more g.met.K.Weight.laws.plain made.states i to added adds old t (λ k. ap (λ x. cond (eqb to k) x o.nil) here))

@@ -1,5 +1,4 @@
 use Rattle.std.proofs.Common.{◌≡◌, cond}
-use Rattle.charts.specs.Charts.{view}
 use Rattle.charts.specs.Sums.{sum}
 use Rattle.charts.specs.Views.{ends}
 use Rattle.machines.specs.Tables.{weight_at}
@@ -9,4 +8,4 @@ abbrev pub invariant-loop-j : goal.invariant-loop-j
 invariant-loop-j g l =
     let o = g.K.Weight.ops in
     let meaning = g.K.Weight.meaning in
-    meaning l.total ≡ sum o l.j (λ j. cond (ends (view l.chart) j) (weight_at o meaning l.row j) o.nil)
+    meaning l.total ≡ sum o l.j (λ j. cond (ends l.chart j) (weight_at o meaning l.row j) o.nil)

@@ -1,14 +1,16 @@
-use Rattle.charts.specs.Charts.{view}
+use Rattle.std.proofs.Common.{length}
 use Rattle.charts.specs.Sums.{sum}
 use Rattle.charts.specs.Views.{arc_row}
+use Rattle.charts.proofs.InOrder.{Reached}
 use Rattle.machines.specs.Arcs.{arc_adds}
-use Rattle.machines.specs.Tables.{table_of, Entries}
+use Rattle.machines.specs.Matrix.{Becomes}
 use Rattle.machines.proofs.clearing.silent.write_silent.Given as goal
 
-abbrev pub invariant-loop-number : goal.invariant-loop-number
-invariant-loop-number g l =
+abbrev pub invariant-loop-arc : goal.invariant-loop-arc
+invariant-loop-arc g l =
     let o = g.K.Weight.ops in
-    let d = (view l.chart).states in
-    Entries d
-    (table_of o g.K.Weight.meaning d l.table)
-    (λ i k. sum o l.number (λ e. arc_adds o g.K.Weight.weighs (arc_row (view l.chart) e) 0 i k))
+    record {
+      joined : Becomes o g.K.Weight.meaning l.fn.matrix l.matrix
+          (λ i k. sum o (length l.yielded) (λ e. arc_adds o g.K.Weight.weighs (arc_row l.chart e) 0 i k));
+      left : Reached l.chart.arc_rows (length l.yielded) l.arc-iterator;
+    }

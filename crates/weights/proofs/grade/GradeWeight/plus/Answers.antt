@@ -1,6 +1,0 @@
-use Rattle.std.proofs.Common.{arith}
-use Rattle.weights.specs.Capped.{same_value}
-use Rattle.weights.proofs.grade.GradeWeight.plus.Goals as goal
-
-pub returns : goal.returns
-returns c = same_value _ _ (omega arith)
