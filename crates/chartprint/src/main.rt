@@ -5,11 +5,11 @@ use reports::tables::{ENOUGH, chart_report};
 use std::io::Read;
 
 fn run(rt: &HostRuntime) -> anyhow::Result<()> {
-    let heap = rt.alloc();
-    let mut file = Vec::new(heap);
+    let alloc = rt.alloc();
+    let mut file = Vec::new(alloc);
     let mut input = rt.stdin().take(ENOUGH);
     input.read_to_end(&mut file)?;
-    let text = chart_report(heap, file.as_slice())?;
+    let text = chart_report(alloc, file.as_slice())?;
     rt.print(text.as_str())?;
     Ok(())
 }

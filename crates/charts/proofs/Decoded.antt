@@ -16,7 +16,7 @@ use Rattle.charts.proofs.Fitting.{limited}
 use Rattle.charts.proofs.Tabled.{tables_inside}
 
 -- the first four questions are passed where the header that was read passes its own
-pub framed : {bs : List ℕ} (h : Header) → 12 ≤ length bs → h ≡ header bs → total_fits h (length bs) ≡ true
+framed : {bs : List ℕ} (h : Header) → 12 ≤ length bs → h ≡ header bs → total_fits h (length bs) ≡ true
     → within_limits h.states h.letters h.arcs ≡ true → tables_fit h ≡ true → Framed bs
 framed {bs} h long is total limits tables = record {
   long = long;
@@ -45,7 +45,7 @@ length_chunked w zero xs = refl
 length_chunked w (suc n) xs = ap suc (length_chunked w n (drop w xs))
 
 -- the tables that lie where the header says have the view of the file
-pub view_found : {bs marks : List ℕ} {rows : List (List ℕ)} (h : Header) (rest : List ℕ) → Framed bs → h ≡ header bs
+view_found : {bs marks : List ℕ} {rows : List (List ℕ)} (h : Header) (rest : List ℕ) → Framed bs → h ≡ header bs
     → rest ≡ drop 12 bs → marks ≡ take h.states (drop (h.marks - 12) rest)
     → rows ≡ first_chunks 12 h.arcs (drop (h.rows - 12) rest) → view_of marks h.letters rows ≡ file_view bs
 view_found {bs} {marks} h rest f is rest_is marks_are rows_are =
@@ -62,6 +62,14 @@ view_found {bs} {marks} h rest f is rest_is marks_are rows_are =
       arc_rows = map row_of (rows_found i);
     }
 
+-- so these are the letters and the tables of the file
+pub found : {bs marks : List ℕ} {rows : List (List ℕ)} (h : Header) (rest : List ℕ) → 12 ≤ length bs → h ≡ header bs → total_fits h (length bs) ≡ true
+    → within_limits h.states h.letters h.arcs ≡ true → tables_fit h ≡ true → rest ≡ drop 12 bs → marks ≡ take h.states (drop (h.marks - 12) rest)
+    → rows ≡ first_chunks 12 h.arcs (drop (h.rows - 12) rest) → Found bs h.letters marks rows
+found h rest long is total limits tables rest_is marks_are rows_are =
+    let passed = framed h long is total limits tables in
+    record { framed = passed; same_view = view_found h rest passed is rest_is marks_are rows_are }
+
 module _ {bs : List ℕ} {letters : ℕ} {marks : List ℕ} {rows : List (List ℕ)} (found : Found bs letters marks rows) where
   limits_are : within_limits (length marks) letters (length (map row_of rows)) ≡ true
   limits_are =
@@ -69,11 +77,15 @@ module _ {bs : List ℕ} {letters : ℕ} {marks : List ℕ} {rows : List (List �
       ap (λ w. within_limits w.states w.letters (length w.arc_rows)) found.same_view
       ∙ ap (within_limits (header bs).states (header bs).letters) arcs ∙ found.framed.limits
 
-  pub few_states : length marks ≤ 32
+  few_states : length marks ≤ 32
   few_states = (limited (length marks) letters (length (map row_of rows)) limits_are).few_states
 
-  pub few_arcs : length rows ≤ 512
+  few_arcs : length rows ≤ 512
   few_arcs = subst (λ n. n ≤ 512) (length-map rows row_of) (limited (length marks) letters (length (map row_of rows)) limits_are).few_arcs
+
+  -- there are no more of them than a chart may have
+  pub few : (length marks ≤ 32) × (length rows ≤ 512)
+  few = (few_states, few_arcs)
 
   -- a state row that fails refuses the file
   pub decoded_states : {e : Refusal} → first_failing state_row_fits StateRow 0 marks ≡ Some e → decoded bs ≡ Err e

@@ -14,9 +14,9 @@ pub enum Refusal {
     Limits,
     // A table is not between the header and the end, or the two share a byte.
     Tables,
-    // This state's row is none; it is the first.
+    // This state's row is not 0 to 3; it is the first such.
     StateRow(u16),
-    // This arc's row is none; it is the first.
+    // This arc's row is not that of an arc; it is the first such.
     ArcRow(u16),
     // The memory handed in is too short.
     Memory,
@@ -59,7 +59,7 @@ impl Refusal {
         }
     }
 
-    // The state, arc or letter that it is about; 0 where there is none.
+    // The state, arc or letter that it is about. Where there is none it is 0, and not `None`: that is what is printed.
     pub fn place(self) -> u16
         ensures { result ≡ place_of self }
     {

@@ -12,7 +12,7 @@ struct Answers {
     rows: &'static [Row],
 }
 
-// An arc in plain numbers: its ends, its letter or 0, its minutes, its grade and its parts.
+// An arc in plain numbers: its ends, its letter, where 0 is silent as in a file, its minutes, its grade and its parts.
 #[derive(Clone, Copy, PartialEq, Debug)]
 struct Plain(u8, u8, u8, u16, u8, u32);
 
@@ -50,16 +50,18 @@ static CHARTS: [Answers; 2] = [
 
 const HIGHEST: Plain = Plain(1, 0, 15, 60_000, 100, 0x7fff_ffff);
 
-fn numbers_of(arc: Arc) -> Plain {
-    let record = arc.record;
-    Plain(
-        arc.from,
-        arc.to,
-        arc.letter.map_or(0, NonZeroU8::get),
-        record.minutes(),
-        record.grade(),
-        record.parts(),
-    )
+impl From<Arc> for Plain {
+    fn from(arc: Arc) -> Plain {
+        let record = arc.record;
+        Plain(
+            arc.from,
+            arc.to,
+            arc.letter.map_or(0, NonZeroU8::get),
+            record.minutes(),
+            record.grade(),
+            record.parts(),
+        )
+    }
 }
 
 fn check_rows(rt: &impl Abort, chart: &Chart, rows: &[Row], chart_name: &str) {
@@ -68,7 +70,7 @@ fn check_rows(rt: &impl Abort, chart: &Chart, rows: &[Row], chart_name: &str) {
         let answers = (
             chart.is_start(number),
             chart.is_end(number),
-            chart.arc(number).map(numbers_of),
+            chart.arc(number).map(Plain::from),
         );
         assert_eq!(rt; answers, (start, end, arc), "{chart_name}: {name}");
     }

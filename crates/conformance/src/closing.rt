@@ -111,9 +111,9 @@ fn table_of<K: Weight>(rt: &(impl Abort + AllocGlobal), case: &Case) -> Result<T
     for step in steps {
         let Step(from, to, minutes, grade, parts, times) = *step;
         let weight = K::of_arc(ArcRecord::new(minutes, grade, parts).expect(rt, name));
-        // By place: `chunks_exact_mut` and `nth` would ask first that there is a state.
-        let place = from.saturating_mul(states).saturating_add(to);
-        let entry = weights.get_mut(place).expect(rt, name);
+        let mut rows = weights.chunks_exact_mut(states.max(1));
+        let row = rows.nth(from).expect(rt, name);
+        let entry = row.get_mut(to).expect(rt, name);
         *entry = (0..times).fold(*entry, |total, _| total.plus(weight));
     }
     Ok(Table { states, weights })
@@ -125,10 +125,9 @@ fn list_walks<K: Weight>(table: &Table<K>, walked: K, here: usize, to: usize, st
     if steps == 0 {
         return total;
     }
-    // By place: `chunks_exact` would ask first that there is a state.
-    let before = here.saturating_mul(table.states);
-    let row = table.weights.iter().skip(before).take(table.states);
-    for (next, step) in row.enumerate() {
+    let mut rows = table.weights.chunks_exact(table.states.max(1));
+    let row = rows.nth(here).unwrap_or(&[]);
+    for (next, step) in row.iter().enumerate() {
         let longer = list_walks(table, walked.times(*step), next, to, steps - 1);
         total = total.plus(longer);
     }
@@ -178,6 +177,9 @@ fn closes_from_the_old_row(rt: HostRuntime) {
     let mut scratch = table;
     let answer = close_table(3, &mut table, &mut scratch);
     assert_eq!(rt; answer, Ok(()));
-    let entry = table[5];
-    assert_eq!(rt; (entry.plain.0, entry.marked.0), (1, 1));
+    let ways = TwoTotals {
+        plain: Count(1),
+        marked: Count(1),
+    };
+    assert_eq!(rt; table[5], ways);
 }

@@ -19,6 +19,8 @@ mod named;
 #[cfg(test)]
 mod pairs;
 #[cfg(test)]
+mod parts;
+#[cfg(test)]
 mod printing;
 #[cfg(test)]
 mod reading;

@@ -19,6 +19,7 @@ use weights::possible::Possible;
 // The weights of arcs of which no two are alike.
 fn numbered<K: Weight>(rt: &impl AllocGlobal, numbers: Range<u16>) -> Result<Vec<K>, Fail> {
     let mut weights = Vec::new(rt.alloc());
+    // A `for` that pushes: at a type parameter no proof is made of a `collect` of what a function such as `of_arc` makes.
     for number in numbers {
         let record = ArcRecord::new(number, number % 100 + 1, u32::from(number));
         weights.push(K::of_arc(record.ok_or("no record")?))?;
@@ -28,7 +29,8 @@ fn numbered<K: Weight>(rt: &impl AllocGlobal, numbers: Range<u16>) -> Result<Vec
 
 // Where the two weights lie whose chain is at a place of the crossing. With two letters the machine of three states has
 // its starts at 0, its ends at 3 and its blocks at 6 and 15, that of two states at 0, 2, 4 and 8, and the crossing, of
-// six, at 0, 6, 12 and 48. The pair of p and q has the number p times two, plus q.
+// six, at 0, 6, 12 and 48. The pair of p and q has the number p times two, plus q. By hand, so that the test does not
+// share a mistake with the code.
 fn places(place: usize) -> (usize, usize) {
     if place < 12 {
         let (part, state) = (place / 6, place % 6);

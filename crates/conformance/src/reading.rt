@@ -5,10 +5,10 @@ use charts::Refusal::{self, ArcRow, Limits, ShortFile, StateRow, Tables, Total};
 use std::process::Abort;
 use std::test::Fail;
 
-// A name, the header, whose total is the file's length too, and the refusal where there is one.
+// A name, the header, whose total is the file's length too, and what reading answers.
 struct Case(&'static str, Header, Result<(), Refusal>);
 
-// The same, with bytes to change before the refusal.
+// The same, with bytes to change in the file. Two sorts of rows, so that a case without such bytes stays on a line.
 #[derive(Drop)]
 struct Patched(&'static str, Header, &'static [Patch], Result<(), Refusal>);
 

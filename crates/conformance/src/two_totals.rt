@@ -13,7 +13,7 @@ use weights::Weight;
 use weights::arcs::ArcRecord;
 use weights::count::Count;
 
-#[derive(Clone, Copy)]
+#[derive(Clone, Copy, PartialEq, Eq, Debug)]
 pub struct TwoTotals {
     pub plain: Count,
     pub marked: Count,
@@ -88,7 +88,7 @@ impl Weight for TwoTotals {
         }
     }
 
-    // Not `==`: what one weight is, the kind below says.
+    // By `same` of the counts and not by `==`, so that the proof rests on what they promise.
     fn same(self, other: TwoTotals) -> bool {
         self.plain.same(other.plain) && self.marked.same(other.marked)
     }

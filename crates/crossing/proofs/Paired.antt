@@ -64,27 +64,26 @@ crossed_more o meaning x y a m ws ys some same fits long step done =
     upto_more a done (λ b i k h l. block_put_in o meaning d a m ws ys some same fits long i k h l ∙ step i k h l)
     (λ c z held b i k h l. block_put_out o meaning d a m ws ys some same fits long c i k b z h l ∙ held b i k h l) (λ c z u. tt)
 
--- where the blocks lie one behind another, each lies in the list; m and n are the numbers of states as the code has them
-pub pair_block_fits : (l a : ℕ) {m n p q room : ℕ} → m ≡ p → n ≡ q → 1 ≤ a → a ≤ l → room ≡ l * (p * q * (p * q)) → (a - 1) * (m * n * (m * n)) + m * n * (m * n) ≤ room
-pair_block_fits l a {m} {n} {p} {q} {room} em en b u e = rw (em, en, e) (block_fits (p * q * (p * q)) l a b u)
+-- where the blocks of d states lie one behind another, each lies in the list; s is the number of states as the code has it
+pub pair_block_fits : (l a d : ℕ) {s room : ℕ} → s ≡ d → 1 ≤ a → a ≤ l → room ≡ l * (d * d) → (a - 1) * (s * s) + s * s ≤ room
+pair_block_fits l a d es b u e = rw (es, e) (block_fits (d * d) l a b u)
 
--- the block of one more of l letters is done, where the blocks lie one behind another; r, k and f are the numbers of states and the letter as the
--- code has them
-pub crossed_letter : {K W : Type 0} (o : Ops W) (meaning : K → W) (x y : Machine W) (l a : ℕ) {r k f : ℕ} (ws ys : List K) → r ≡ x.states → k ≡ y.states →
+-- the block of one more of l letters is done, where the blocks lie one behind another; s and f are the number of states and the letter as the code
+-- has them
+pub crossed_letter : {K W : Type 0} (o : Ops W) (meaning : K → W) (x y : Machine W) (l a : ℕ) {s f : ℕ} (ws ys : List K) → s ≡ x.states * y.states →
     f ≡ a → 1 ≤ a → a ≤ l → length ws ≡ l * (x.states * y.states * (x.states * y.states)) →
-    length ys ≡ length (take ((f - 1) * (r * k * (r * k)) + r * k * (r * k) - (f - 1) * (r * k * (r * k))) (drop ((f - 1) * (r * k * (r * k))) ws)) →
+    length ys ≡ length (take ((f - 1) * (s * s) + s * s - (f - 1) * (s * s)) (drop ((f - 1) * (s * s)) ws)) →
     Entries (x.states * y.states) (table_of o meaning (x.states * y.states) ys) ((crossed o x y).block a) → CrossedBelow o meaning x y ws a →
-    CrossedBelow o meaning x y (put_mid ((f - 1) * (r * k * (r * k))) ((f - 1) * (r * k * (r * k)) + r * k * (r * k) - (f - 1) * (r * k * (r * k))) ws ys) (a + 1)
-crossed_letter o meaning x y l a {r} {k} {f} ws ys er ek ef some within room same step done =
-    let size = x.states * y.states * (x.states * y.states) in
-    let code = r * k * (r * k) in
-    let part = pair_block_fits l f er ek (omega arith) (omega arith) room in
-    let long : length ys ≡ code = same ∙ length_part ((f - 1) * code) code ws part in
-    let states = ap₂ ◌*◌ er ek in
+    CrossedBelow o meaning x y (put_mid ((f - 1) * (s * s)) ((f - 1) * (s * s) + s * s - (f - 1) * (s * s)) ws ys) (a + 1)
+crossed_letter o meaning x y l a {s} {f} ws ys es ef some within room same step done =
+    let d = x.states * y.states in
+    let size = d * d in
+    let part = pair_block_fits l f d es (omega arith) (omega arith) room in
+    let long : length ys ≡ s * s = same ∙ length_part ((f - 1) * (s * s)) (s * s) ws part in
     let fits : a * size ≤ l * size = mul-le-mul_right size within in
-    rw (er, ek, ef)
+    rw (es, ef)
     (crossed_more o meaning x y a ((a - 1) * size + size - (a - 1) * size) ws ys some (add-sub_cancel_left ((a - 1) * size) size) (omega arith)
-    (long ∙ ap₂ ◌*◌ states states) step done)
+    (long ∙ ap₂ ◌*◌ es es) step done)
 
 -- the pairs of two parts, which the code was answered as s and t
 pub paired_parts : {K W : Type 0} (o : Ops W) (meaning : K → W) {m n : ℕ} {s t first second : List K} (pairs : List K) → s ≡ first → t ≡ second →
@@ -92,8 +91,6 @@ pub paired_parts : {K W : Type 0} (o : Ops W) (meaning : K → W) {m n : ℕ} {s
     weight_at o meaning pairs i ≡ o.times (weight_at o meaning first (i / n)) (weight_at o meaning second (i % n))
 paired_parts o meaning {m} {n} {s} {t} {first} {second} pairs es et long wide paired = rw (es, et) at (rw (long, wide) at paired)
 
--- the row of a pair ends within its block; r and k are the numbers of states as the code has them
-pub pair_row_fits : (m n : ℕ) {r k p q room : ℕ} → r ≡ m → k ≡ n → room ≡ m * n * (m * n) → p < r → q < k → (p * k + q) * (r * k) + r * k ≤ room
-pair_row_fits m n {r} {k} er ek e h l =
-    let states = ap₂ ◌*◌ er ek in
-    row_fits (r * k) {m = r * k} (e ∙ sym (ap₂ ◌*◌ states states)) (digits_lt h l)
+-- the row of a pair ends within its block; k and d are the second's states and the number of pairs as the code has them
+pub pair_row_fits : (m n : ℕ) {k d p q room : ℕ} → k ≡ n → d ≡ m * n → room ≡ m * n * (m * n) → p < m → q < n → (p * k + q) * d + d ≤ room
+pair_row_fits m n ek ed e h l = rw (ek, ed) (row_fits (m * n) {m = m * n} e (digits_lt h l))

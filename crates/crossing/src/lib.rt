@@ -1,7 +1,7 @@
 // Crossing two machines: a machine of their pairs of states, which reads the same letters on both.
 #![tactic(auto)]
 
-mod pairs;
+mod pair;
 
 ghost use Rattle.std.specs.Prelude.{◌≡◌, ◌*◌, ◌≤◌, true, length, is_ok};
 ghost use Rattle.machines.specs.Machine.{Alike, crossed};
@@ -11,7 +11,7 @@ ghost use Rattle.machines.specs.Questions.{KeptBehind};
 
 use charts::Refusal;
 use machines::Machine;
-use pairs::{write_pair_blocks, write_pairs};
+use pair::Pair;
 use weights::{Commutative, Weight};
 
 // Writes the crossing of two machines to the front of `table`. The pair of the states p and q has the number p times the
@@ -32,25 +32,14 @@ pub fn cross<K: Weight>(
     if states > 64 {
         return Err(Refusal::TooManyStates);
     }
+    // No public function may ask something of its caller, so this is written here again, as `machines` has it.
     let size = 2 * states + usize::from(first.letters()) * (states * states);
     if table.len() < size {
         return Err(Refusal::Memory);
     }
-    write_crossing(first, second, &mut table[..size]);
+    let pair = Pair { first, second };
+    pair.write(&mut table[..size]);
     Ok(())
-}
-
-// Writes the start weights, the end weights and the blocks of a crossing.
-fn write_crossing<K: Weight>(first: &Machine<K>, second: &Machine<K>, table: &mut [K])
-    requires within { (first.now.states * second.now.states ≤ 64) × (first.now.letters ≡ second.now.letters) }
-    requires fits { length table.old ≡ pair_size first.now second.now }
-    ensures { Alike (pair_machine K.Weight.ops K.Weight.meaning first.now second.now table.new) (crossed K.Weight.ops (meant K.Weight.ops K.Weight.meaning first.now) (meant K.Weight.ops K.Weight.meaning second.now)) }
-{
-    let states = first.states() * second.states();
-    let size = table.len();
-    write_pairs(first.starts(), second.starts(), &mut table[..states]);
-    write_pairs(first.ends(), second.ends(), &mut table[states..2 * states]);
-    write_pair_blocks(first, second, &mut table[2 * states..size]);
 }
 
 // The same for a kind whose chain does not mind the order: there the crossing tells of any letters the chain of what the
@@ -65,6 +54,5 @@ pub fn cross_commutative<K: Commutative>(
     ensures multiplies { is_ok result ≡ true → Multiplies K.Weight.ops (meant K.Weight.ops K.Weight.meaning first.now) (meant K.Weight.ops K.Weight.meaning second.now) (pair_machine K.Weight.ops K.Weight.meaning first.now second.now table.new) }
     ensures table_kept { KeptBehind (is_ok result) (pair_size first.now second.now) table.old table.new }
 {
-    let _ = K::commutes();
     cross(first, second, table)
 }

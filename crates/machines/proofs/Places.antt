@@ -113,7 +113,7 @@ module _ {K W : Type 0} (o : Ops W) (meaning : K → W) where
   weight_first (x ∷ xs) ys (suc p) h = weight_first xs ys p (omega arith)
 
   -- the second of two lists
-  weight_second : (xs ys : List K) (p : ℕ) → weight_at o meaning (xs ++ ys) (length xs + p) ≡ weight_at o meaning ys p
+  pub weight_second : (xs ys : List K) (p : ℕ) → weight_at o meaning (xs ++ ys) (length xs + p) ≡ weight_at o meaning ys p
   weight_second [] ys p = rw (zero-add p)
   weight_second (x ∷ xs) ys p = rw (suc-add (length xs) p) (weight_second xs ys p)
 
@@ -126,13 +126,13 @@ module _ {K W : Type 0} (o : Ops W) (meaning : K → W) where
         rw front at second ∙ weight_first ys (drop n (drop a ws)) p (omega arith)
 
     -- it changes nothing before the part
-    pub weight_put_before : (p : ℕ) → p < a → weight_at o meaning (put_mid a n ws ys) p ≡ weight_at o meaning ws p
+    weight_put_before : (p : ℕ) → p < a → weight_at o meaning (put_mid a n ws ys) p ≡ weight_at o meaning ws p
     weight_put_before p h =
         let front = length-take-le a ws begins in
         weight_first (take a ws) (ys ++ drop n (drop a ws)) p (omega arith) ∙ weight_take a ws p h
 
     -- nor behind it
-    pub weight_put_behind : (p : ℕ) → a + n ≤ p → weight_at o meaning (put_mid a n ws ys) p ≡ weight_at o meaning ws p
+    weight_put_behind : (p : ℕ) → a + n ≤ p → weight_at o meaning (put_mid a n ws ys) p ≡ weight_at o meaning ws p
     weight_put_behind p h =
         let front = length-take-le a ws begins in
         let r = p - (a + n) in

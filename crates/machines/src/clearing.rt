@@ -10,6 +10,7 @@ ghost use Rattle.machines.specs.Meant.{machine_of, Cleared};
 ghost use Rattle.machines.specs.Questions.{clearing_answer, KeptBehind};
 ghost use Rattle.machines.specs.Shapes.{machine_size};
 
+use crate::machine::machine_size;
 use crate::matrix::Matrix;
 use blocks::write_blocks;
 use charts::{Chart, Refusal};
@@ -33,7 +34,7 @@ pub fn clear<K: Weight>(
 {
     let states = chart.states();
     let places = states * states;
-    let size = 2 * states + usize::from(chart.letters()) * places;
+    let size = machine_size(states, chart.letters());
     if silent.len() < places || scratch.len() < places || table.len() < size {
         return Err(Refusal::Memory);
     }
@@ -54,11 +55,12 @@ fn clear_into<K: Weight>(chart: &Chart, silent: &mut [K], kept: &mut [K], table:
     ensures { Alike (machine_of K.Weight.ops K.Weight.meaning chart.now.states chart.now.letters table.new) (cleared K.Weight.ops (automaton K.Weight.weighs chart.now)) }
 {
     let states = chart.states();
-    let size = table.len();
+    let (starts, rest) = table.split_at_mut(states);
+    let (ends, blocks) = rest.split_at_mut(states);
     let mut matrix = Matrix::new(states, silent);
     write_silent(chart, &mut matrix);
     matrix.close(kept);
-    write_starts(chart, &mut table[..states]);
-    write_ends(chart, &matrix, &mut table[states..2 * states]);
-    write_blocks(chart, &matrix, &mut table[2 * states..size]);
+    write_starts(chart, starts);
+    write_ends(chart, &matrix, ends);
+    write_blocks(chart, &matrix, blocks);
 }

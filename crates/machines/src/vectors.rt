@@ -1,4 +1,4 @@
-// What is done to one row of weights.
+// What is done to a slice of weights.
 ghost use Rattle.std.specs.Prelude.{◌≡◌, ℕ, length};
 ghost use Rattle.machines.specs.Tables.{weight_at, Joined};
 
@@ -18,11 +18,11 @@ pub(crate) fn join_multiple<K: Weight>(row: &mut [K], factor: K, other: &[K])
     }
 }
 
-// Makes every weight of a row zero.
-pub(crate) fn fill_zero<K: Weight>(row: &mut [K])
-    ensures { (k : ℕ) → weight_at K.Weight.ops K.Weight.meaning row.new k ≡ K.Weight.ops.nil }
+// Makes every weight zero. Not `fill`, which asks that a clone cannot fail; a kind of weight says nothing of that.
+pub(crate) fn fill_zero<K: Weight>(weights: &mut [K])
+    ensures { (k : ℕ) → weight_at K.Weight.ops K.Weight.meaning weights.new k ≡ K.Weight.ops.nil }
 {
-    for weight in row.iter_mut() {
+    for weight in weights.iter_mut() {
         *weight = K::ZERO;
     }
 }

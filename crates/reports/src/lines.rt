@@ -6,8 +6,8 @@ use charts::Refusal;
 use std::alloc::{AllocError, Global};
 
 // Why there is no chart, and where.
-pub fn refusal_line(heap: Global, refusal: Refusal) -> Result<String, AllocError>
+pub fn refusal_line(alloc: Global, refusal: Refusal) -> Result<String, AllocError>
     ensures { IfOk result (λ s. string_bytes s ≡ refusal_line refusal) }
 {
-    format!(in heap; "refused {refusal}\n")
+    format!(in alloc; "refused {refusal}\n")
 }

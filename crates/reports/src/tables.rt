@@ -59,20 +59,20 @@ fn write_arcs<W: fmt::Write>(f: &mut fmt::Formatter<W>, chart: &Chart) -> fmt::R
     Ok(())
 }
 
-// The table of a chart, or nothing where there is no memory for it.
-pub fn chart_table(heap: Global, chart: &Chart) -> Result<String, AllocError>
+// The table of a chart.
+pub fn chart_table(alloc: Global, chart: &Chart) -> Result<String, AllocError>
     ensures { IfOk result (λ s. string_bytes s ≡ table chart.now) }
 {
-    Printed(chart).to_string(heap)
+    Printed(chart).to_string(alloc)
 }
 
 // The table of the chart that a file holds, or its refusal. Of a long file the front is enough, whatever follows it.
-pub fn chart_report(heap: Global, file: &[u8]) -> Result<String, AllocError>
+pub fn chart_report(alloc: Global, file: &[u8]) -> Result<String, AllocError>
     ensures text { IfOk result (λ s. string_bytes s ≡ report file.now) }
     ensures enough { 8193 ≤ length file.now → (more : List ℕ) → IfOk result (λ s. string_bytes s ≡ report (file.now ++ more)) }
 {
     match Chart::read(file) {
-        Ok(chart) => chart_table(heap, &chart),
-        Err(refusal) => refusal_line(heap, refusal),
+        Ok(chart) => chart_table(alloc, &chart),
+        Err(refusal) => refusal_line(alloc, refusal),
     }
 }

@@ -82,7 +82,8 @@ pub trait Commutative: Weight {
 
 // A kind whose join picks one of the two weights, and in which nothing is better than one.
 pub trait Ranked: Weight {
-    // Is this weight at least as good as the other, so that their join is this one?
+    // Is this weight at least as good as the other, so that their join is this one? It is no `PartialOrd`: several values may mean
+    // one weight, and of minutes the fewer are the better.
     fn keep(self, other: Self) -> bool
         ensures says { Decides result (Self.Weight.ops.plus (Self.Weight.meaning self) (Self.Weight.meaning other) ≡ Self.Weight.meaning self) }
         ensures laws_hold { RankedLaws Self.Weight.ops };

@@ -63,11 +63,7 @@ impl Header {
     pub(super) fn within_limits(self) -> bool
         ensures { result ≡ within_limits self.states self.letters self.arcs }
     {
-        1 <= self.states
-            && self.states <= 32
-            && 1 <= self.letters
-            && self.letters <= 15
-            && self.arcs <= 512
+        (1..=32).contains(&self.states) && (1..=15).contains(&self.letters) && self.arcs <= 512
     }
 
     // Do both tables lie between the header and the end, sharing no byte?

@@ -1,38 +1,14 @@
-// The two tables of a chart's file, as lent.
-ghost use Rattle.std.specs.Prelude.{◌≡◌, Err, MatchResult};
-ghost use Rattle.charts.specs.Format.{decoded};
-ghost use Rattle.charts.specs.Tabled.{Found};
+// The number of letters and the two tables of a chart's file, as lent, and the questions that their rows answer.
+mod find;
+mod rows;
 
-use super::header::Header;
-use crate::refusals::Refusal;
+ghost use Rattle.std.specs.Prelude.{◌≤◌, length};
 
+// A byte for each state, and twelve for each arc: no more than a chart may have.
 #[derive(Clone, Copy)]
-pub(super) struct Tables<'a> {
-    pub(super) letters: u8,
-    pub(super) marks: &'a [u8],
-    pub(super) rows: &'a [[u8; 12]],
-}
-
-impl<'a> Tables<'a> {
-    // The tables of a file that passes the first four questions.
-    pub(super) fn find(file: &'a [u8]) -> Result<Tables<'a>, Refusal>
-        ensures { MatchResult result (λ t. Found file.now t.letters t.marks.now t.rows.now) (λ e. decoded file.now ≡ Err e) }
-    {
-        let (header, rest) = Header::split(file)?;
-        if !header.total_fits(file.len()) {
-            return Err(Refusal::Total);
-        }
-        if !header.within_limits() {
-            return Err(Refusal::Limits);
-        }
-        if !header.tables_fit() {
-            return Err(Refusal::Tables);
-        }
-        let (marks, rows) = header.tables(rest);
-        Ok(Tables {
-            letters: header.letters as u8,
-            marks,
-            rows,
-        })
-    }
+pub(crate) struct Tables<'a> {
+    pub(crate) letters: u8,
+    pub(crate) marks: &'a [u8],
+    pub(crate) rows: &'a [[u8; 12]],
+    ghost few: { (length marks.now ≤ 32) × (length rows.now ≤ 512) },
 }

@@ -16,11 +16,11 @@ returns g c =
     let states : s ≡ d = ap₂ ◌*◌ c.states.ensures.value c.states-2.ensures.value in
     let letters = c.from.ensures ∙ c.letters-3.ensures in
     let size : 2 * s + c.from.result * (s * s) ≡ machine_size d first.letters = ap₂ ◌+◌ (ap (◌*◌ 2) states) (ap₂ ◌*◌ letters (ap₂ ◌*◌ states states)) in
-    let written = c.write_crossing.new.table in
+    let written = c.write.new.table in
     let whole : length written ≡ 2 * s + c.from.result * (s * s) = search rules in
     let rest = drop (2 * s + c.from.result * (s * s)) c.args.table.now in
     record {
       answers = grind (arith, nat_tests);
-      crosses = λ _. alike_trans refl (front_alike o meaning d first.letters written rest (whole ∙ size)) c.write_crossing.ensures;
+      crosses = λ _. alike_trans refl (front_alike o meaning d first.letters written rest (whole ∙ size)) c.write.ensures;
       table_kept = drop-append-drop (2 * s + c.from.result * (s * s)) c.args.table.now written (machine_size d first.letters) (omega arith) whole;
     }

@@ -17,6 +17,6 @@ returns g c =
     record {
       answers = c.cross.ensures.answers;
       crosses = c.cross.ensures.crosses;
-      multiplies = λ ok w h. told_cong plain z (crossed o x y) (c.cross.ensures.crosses ok) w h ∙ told_crossed plain c.commutes.ensures.law_holds x y w;
+      multiplies = λ ok w h. told_cong plain z (crossed o x y) (c.cross.ensures.crosses ok) w h ∙ told_crossed plain g.met.K.Commutative.times_commutes x y w;
       table_kept = c.cross.ensures.table_kept;
     }

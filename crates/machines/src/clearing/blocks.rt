@@ -32,6 +32,7 @@ fn join_block<K: Weight>(arc: Arc, closed: &Matrix<K>, blocks: &mut [K])
 {
     if let Some(letter) = arc.letter {
         let states = closed.states();
+        // One line, as in `Machine::block`, whose blocks lie behind the ends.
         let size = states * states;
         let begin = (usize::from(letter.get()) - 1) * size;
         join_column(
@@ -44,7 +45,9 @@ fn join_block<K: Weight>(arc: Arc, closed: &Matrix<K>, blocks: &mut [K])
     }
 }
 
-// Joins into each row's entry of column `to` the closed row's entry of column `from`, chained with a weight.
+// Joins into each row's entry of column `to` the closed row's entry of column `from`, chained with a weight. It takes the
+// block as a slice and makes the matrix itself: a matrix that is made on a part and then handed on leaves there what no
+// proof can follow.
 fn join_column<K: Weight>(from: usize, to: usize, weight: K, closed: &Matrix<K>, block: &mut [K])
     requires within { (from < closed.now.states) × (to < closed.now.states) }
     requires fits { length block.old ≡ closed.now.states * closed.now.states }

@@ -34,6 +34,7 @@ pub(super) fn write_ends<K: Weight>(chart: &Chart, closed: &Matrix<K>, row: &mut
     requires { length row.old ≡ closed.now.states }
     ensures { (i : ℕ) → i < length row.old → weight_at K.Weight.ops K.Weight.meaning row.new i ≡ sum K.Weight.ops (length row.old) (λ j. (if ends chart.now j then matrix_of K.Weight.ops K.Weight.meaning closed.now i j else K.Weight.ops.nil)) }
 {
+    // The closed row by its number, since after a `zip` nothing is known of what was written.
     for (i, weight) in row.iter_mut().enumerate() {
         *weight = end_weight(chart, closed.row(i));
     }

@@ -3,7 +3,7 @@ ghost use Rattle.std.specs.Prelude.{◌≡◌, ◌&&◌, [], length, if◌then�
 ghost use Rattle.machines.specs.Questions.{machine_answer};
 ghost use Rattle.machines.specs.Shapes.{Shaped, start_part, end_part, block_part, row_part};
 
-use super::Machine;
+use super::{Machine, machine_size};
 use charts::Refusal;
 
 impl<'a, K> Machine<'a, K> {
@@ -14,7 +14,7 @@ impl<'a, K> Machine<'a, K> {
         if !(1..=64).contains(&states) || !(1..=15).contains(&letters) {
             return Err(Refusal::Limits);
         }
-        if table.len() < 2 * states + usize::from(letters) * (states * states) {
+        if table.len() < machine_size(states, letters) {
             return Err(Refusal::Memory);
         }
         Ok(Machine {
@@ -55,19 +55,22 @@ impl<'a, K> Machine<'a, K> {
         &self.table[self.states..2 * self.states]
     }
 
-    // The block of a letter, row by row; it is empty where the machine has no such letter. Not `None`: this call fails nowhere.
+    // The block of a letter, row by row; it is empty where the machine has no such letter. An empty slice and not `None`, so
+    // that a call fails nowhere and a caller that goes over it needs no other arm.
     pub fn block(&self, letter: u8) -> &[K]
         ensures { result.now ≡ (if nat_le 1 letter && nat_le letter self.now.letters then block_part self.now.states letter self.now.table else []) }
     {
         if !(1..=self.letters).contains(&letter) {
             return &self.table[..0];
         }
+        // A function for where a block begins would ask of each caller that the letter is not 0.
         let size = self.states * self.states;
         let begin = 2 * self.states + (usize::from(letter) - 1) * size;
         &self.table[begin..begin + size]
     }
 
-    // The row of a state in the block of a letter; it is empty where the machine has no such letter or no such state.
+    // The row of a state in the block of a letter; it is empty where the machine has no such letter or no such state. An empty
+    // slice and not `None`, as in `block`.
     pub fn row(&self, letter: u8, state: usize) -> &[K]
         ensures { result.now ≡ (if nat_le 1 letter && nat_le letter self.now.letters && nat_lt state self.now.states then row_part self.now.states letter state self.now.table else []) }
     {

@@ -9,8 +9,8 @@ use crate::vectors::{fill_zero, join_multiple};
 use weights::Weight;
 
 impl<'a, K> Matrix<'a, K> {
-    // The matrix of so many states in memory that it fills. Made on `&mut w[..n]` where `w` is used on, it leaves there what
-    // no proof can follow: hand it a whole slice, or a half of `split_at_mut`.
+    // The matrix of so many states in memory that it fills: a whole slice or a half of `split_at_mut`. Of a part `&mut w[..n]`
+    // no proof could say afterwards what stands in `w`.
     pub(crate) fn new(states: usize, weights: &'a mut [K]) -> Matrix<'a, K>
         requires { Square states weights.old }
         ensures { LiesIn result states weights.entry }

@@ -9,7 +9,7 @@ impl ArcRecord {
     pub fn new(minutes: u16, grade: u16, parts: u32) -> Option<ArcRecord>
         ensures { Recorded minutes grade parts result }
     {
-        if minutes <= 60_000 && 1 <= grade && grade <= 100 && parts < 0x8000_0000 {
+        if minutes <= 60_000 && (1..=100).contains(&grade) && parts < 0x8000_0000 {
             Some(ArcRecord {
                 minutes,
                 grade: grade as u8,

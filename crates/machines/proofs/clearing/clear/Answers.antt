@@ -1,4 +1,4 @@
-use Rattle.std.proofs.Common.{◌≡◌, ◌+◌, ◌*◌, ◌≤◌, length, drop, ap, ◌∙◌, ap₂, arith, rules}
+use Rattle.std.proofs.Common.{◌≡◌, ◌*◌, ◌≤◌, length, drop, arith, rules}
 use Rattle.std.proofs.lemmas.Slice.{drop-append-drop}
 use Rattle.charts.specs.Automaton.{automaton}
 use Rattle.charts.proofs.Fitting.{fitted}
@@ -11,14 +11,12 @@ use Rattle.machines.proofs.clearing.clear.Goals as goal
 pub returns-clause-clears : goal.returns-clause-clears
 returns-clause-clears g c _ =
     let v = c.args.chart.now in
-    let s = c.states-states.result in
-    let states = c.states-states.ensures.value in
-    let size : 2 * s + c.from.result * (s * s) ≡ machine_size v.states v.letters =
-    ap₂ ◌+◌ (ap (◌*◌ 2) states) (ap₂ ◌*◌ (c.from.ensures ∙ c.letters.ensures) (ap₂ ◌*◌ states states)) in
+    let size = c.machine_size-size.result in
     let written = c.clear_into.new.table in
-    let whole : length written ≡ 2 * s + c.from.result * (s * s) = search rules in
+    let long : length written ≡ size = search rules in
+    let whole : length written ≡ machine_size v.states v.letters = cc in
     cleared_front g.K.Weight.meaning g.met.K.Weight.laws (automaton g.K.Weight.weighs v) (sound g.K.Weight.weighs v c.states-states.ensures.fits) written
-    (drop (2 * s + c.from.result * (s * s)) c.args.table.now) (whole ∙ size) c.clear_into.ensures
+    (drop size c.args.table.now) whole c.clear_into.ensures
 
 pub returns-clause-scratch_kept : goal.returns-clause-scratch_kept
 returns-clause-scratch_kept g c =

@@ -1,8 +1,8 @@
-use Rattle.std.proofs.Common.{◌≡◌, ◌-◌, ◌*◌, length, sym, refl, ◌∙◌, arith, rules}
+use Rattle.std.proofs.Common.{◌≡◌, length, sym, refl, ◌∙◌, rules}
 use Rattle.charts.specs.Automaton.{automaton}
 use Rattle.machines.specs.Machine.{arc_table, cleared_by}
 use Rattle.machines.specs.Matrix.{matrix_of}
-use Rattle.machines.proofs.Laid.{laid, laid_alike}
+use Rattle.machines.proofs.Laid.{laid_alike}
 use Rattle.machines.proofs.Told.{alike_trans, closed_from, cleared_cong}
 use Rattle.machines.proofs.clearing.clear_into.Goals as goal
 
@@ -11,22 +11,17 @@ returns g c =
     let o = g.K.Weight.ops in
     let meaning = g.K.Weight.meaning in
     let plain = g.met.K.Weight.laws.plain in
-    let v = c.args.chart.now in
-    let d = v.states in
+    let d = c.args.chart.now.states in
     let states = c.states-states.ensures.value in
-    let a = automaton g.K.Weight.weighs v in
+    let a = automaton g.K.Weight.weighs c.args.chart.now in
     let shut = c.close.new.self in
     let xs = c.write_starts.new.row in
     let ys = c.write_ends.new.row in
-    let zs = c.write_blocks.new.blocks in
-    let table = c.args.table.now in
     let starts_long : length xs ≡ d = search rules in
     let ends_long : length ys ≡ d = search rules in
-    let blocks_long : length zs ≡ v.letters * (d * d) = search rules in
-    let parts = laid o meaning d v.letters table xs ys zs starts_long ends_long blocks_long c.requires.fits (2 * d - d) (length table - 2 * d) (omega arith) (omega arith) in
     let first = sym c.write_starts.auto.row ∙ starts_long in
     let second = sym c.write_ends.auto.row ∙ ends_long in
     let closes = closed_from o meaning d (arc_table o a 0) c.new-matrix.result c.write_silent.new.matrix shut (c.new-matrix.ensures.states ∙ states) c.write_silent.ensures c.close.ensures in
-    let written = laid_alike (cleared_by o a (matrix_of o meaning shut)) parts refl (rw first at c.write_starts.ensures) (rw second at c.write_ends.ensures)
-    (λ a i k b u h l. c.write_blocks.ensures a i k b h l) in
-    rw states (alike_trans refl written (cleared_cong plain a closes))
+    let written = laid_alike o meaning xs ys c.write_blocks.new.blocks starts_long ends_long (cleared_by o a (matrix_of o meaning shut)) refl
+    (rw first at c.write_starts.ensures) (rw second at c.write_ends.ensures) (λ a i k b u h l. c.write_blocks.ensures a i k b h l) in
+    alike_trans refl written (cleared_cong plain a closes)

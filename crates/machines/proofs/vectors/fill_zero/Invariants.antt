@@ -5,4 +5,4 @@ use Rattle.machines.proofs.vectors.fill_zero.Given as goal
 abbrev pub invariant-loop-weight : goal.invariant-loop-weight
 invariant-loop-weight g l =
     let o = g.K.Weight.ops in
-    (k : ℕ) → k < l.weight-index → weight_at o g.K.Weight.meaning l.row k ≡ o.nil
+    (k : ℕ) → k < l.weight-index → weight_at o g.K.Weight.meaning l.weights k ≡ o.nil

@@ -1,4 +1,4 @@
-use Rattle.std.proofs.Common.{◌≡◌, [], refl, sym, ap₂}
+use Rattle.std.proofs.Common.{◌≡◌, true, [], refl, sym, ap₂}
 use Rattle.charts.specs.Arcs.{row_of_arc}
 use Rattle.charts.specs.Views.{row_of}
 use Rattle.charts.proofs.InOrder.{passed, reached_more, reached_end}
@@ -12,11 +12,12 @@ loop-number-preserved g c =
     let n = c.loop-number.number-iterator.count in
     let step = c.in-Some.ensures.steps in
     let p = passed v.arc_rows n c.loop-number.invariant.left step.0 in
-    let text : row_line c.in-Some.number (row_of_arc c.in-Some.arc) ≡ arc_line v n = ap₂ row_line step.1 (sym (p.here (row_of []))) in
+    let text = row_line c.in-Some.number (row_of_arc c.in-Some.arc) in
+    let same : text ≡ arc_line v n = ap₂ row_line step.1 (sym (p.here (row_of []))) in
     rw step.2 (record {
       written = λ plain.
           let so_far = c.loop-number.invariant.written plain in
-          line_written (arc_line v) n {bs = row_line c.in-Some.number (row_of_arc c.in-Some.arc)} so_far (c.in_ok-writeln.ensures.writes so_far.plain refl) text;
+          line_written {h = c.writeln.new.self} (arc_line v) n {bs = text} so_far (c.in_ok-writeln.ensures.writes so_far.plain (refl {a = true})) same;
       left = reached_more v.arc_rows n p;
     })
 

@@ -13,13 +13,13 @@ use Rattle.charts.proofs.reading.Chart.arc.Goals as goal
 pub returns : goal.returns
 returns c =
     let inside = c.self.inside in
-    let rows = map row_of inside.rows.now in
+    let rows = map row_of inside.tables.rows.now in
     let found = c.in_ok-row.ensures.lookup.3 in
-    let within : c.args.number < length rows = rw (length-map inside.rows.now row_of) found.0 in
+    let within : c.args.number < length rows = rw (length-map inside.tables.rows.now row_of) found.0 in
     let here : get_or rows c.args.number (row_of []) ≡ row_of c.in_ok-row.row.now =
-    get_or-map row_of inside.rows.now c.args.number [] (row_of []) found.0 ∙ ap row_of (sym (found.1 [])) in
-    let fit : arc_row_fits (length inside.marks.now) inside.letters (row_of c.in_ok-row.row.now) ≡ true =
-    sym (ap (arc_row_fits (length inside.marks.now) inside.letters) here)
-    ∙ all_at _ rows c.args.number (row_of []) within (fitted (view_of inside.marks.now inside.letters inside.rows.now) c.self.invariant).arc_rows in
+    get_or-map row_of inside.tables.rows.now c.args.number [] (row_of []) found.0 ∙ ap row_of (sym (found.1 [])) in
+    let fit : arc_row_fits (length inside.tables.marks.now) inside.tables.letters (row_of c.in_ok-row.row.now) ≡ true =
+    sym (ap (arc_row_fits (length inside.tables.marks.now) inside.tables.letters) here)
+    ∙ all_at _ rows c.args.number (row_of []) within (fitted (view_of inside.tables.marks.now inside.tables.letters inside.tables.rows.now) c.self.invariant).arc_rows in
     c.read_arc.ensures ∙ cond-true _ _ _ fit ∙ ap Some (sym here) ∙ sym (slice_get-get_or rows c.args.number (row_of []) within)
     ∙ ap (λ v. slice_get v.arc_rows c.args.number) c.self.view_is

@@ -1,9 +1,6 @@
 use Rattle.std.proofs.Common.{sym}
-use Rattle.charts.proofs.Decoded.{few_arcs, fits_found}
+use Rattle.charts.proofs.Decoded.{fits_found}
 use Rattle.charts.proofs.reading.Chart.read.Goals as goal
-
-pub check_arcs-requires : goal.check_arcs-requires
-check_arcs-requires c = few_arcs c.in_ok-tables.ensures
 
 pub invariant_of-result : goal.invariant_of-result
 invariant_of-result c =

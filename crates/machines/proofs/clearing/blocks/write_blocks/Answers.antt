@@ -1,4 +1,4 @@
-use Rattle.std.proofs.Common.{◌*◌, ◌≤◌, length, ap, ◌∙◌, mul-le-mul_right, arith}
+use Rattle.std.proofs.Common.{◌≡◌, ◌*◌, ◌≤◌, length, ap, mul-le-mul_right, arith}
 use Rattle.charts.specs.Arcs.{row_of_arc, letter_number}
 use Rattle.charts.specs.Automaton.{automaton}
 use Rattle.charts.specs.Views.{arc_row}
@@ -20,7 +20,7 @@ join_block-requires g c =
     let few = (fitted v fits).limits.few_letters in
     let letter = between.letter_within in
     let size = v.states * v.states in
-    let long = c.loop-arc.auto.blocks ∙ c.fill_zero.auto.row ∙ c.requires.fits in
+    let long : length c.loop-arc.blocks ≡ v.letters * size = cc in
     let room : letter_number c.in-Some.arc.letter * size ≤ v.letters * size = mul-le-mul_right size letter in
     rw c.requires.closes (record { within = (between.from_below, (between.to_below, omega arith)); fits = rw long room })
 

@@ -31,5 +31,5 @@ loop-arc-preserved c =
 
 pub returns : goal.returns
 returns c =
-    let past : length (map row_of c.args.self.rows.now) ≤ c.loop-arc.arc = rw (length-map c.args.self.rows.now row_of) c.loop-arc-test.false in
+    let past : length (map row_of c.args.self.now.rows.now) ≤ c.loop-arc.arc = rw (length-map c.args.self.now.rows.now row_of) c.loop-arc-test.false in
     sym (failing_none _ ArcRow _ _ past) ∙ c.loop-arc.invariant

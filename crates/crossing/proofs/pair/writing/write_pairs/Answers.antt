@@ -3,7 +3,7 @@ use native.Mathlib.Nat.{add-sub_cancel_left}
 use Rattle.machines.specs.Tables.{weight_at}
 use Rattle.crossing.proofs.Paired.{rows_paired}
 use Rattle.machines.proofs.Places.{row_fits, upto_none, upto_put, weight_read}
-use Rattle.crossing.proofs.pairs.write_pairs.Goals as goal
+use Rattle.crossing.proofs.pair.writing.write_pairs.Goals as goal
 
 pub loop-p-init : goal.loop-p-init
 loop-p-init g c = upto_none (λ r. tt)

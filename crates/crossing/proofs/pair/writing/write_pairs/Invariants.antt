@@ -1,6 +1,6 @@
 use Rattle.machines.specs.Tables.{weight_at}
 use Rattle.machines.proofs.Places.{Upto, RowIs}
-use Rattle.crossing.proofs.pairs.write_pairs.Given as goal
+use Rattle.crossing.proofs.pair.writing.write_pairs.Given as goal
 
 abbrev pub invariant-loop-p : goal.invariant-loop-p
 invariant-loop-p g l =

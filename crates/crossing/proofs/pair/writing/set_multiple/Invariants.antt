@@ -1,6 +1,6 @@
 use Rattle.std.proofs.Common.{◌≡◌, ℕ, ◌<◌}
 use Rattle.machines.specs.Tables.{weight_at}
-use Rattle.crossing.proofs.pairs.set_multiple.Given as goal
+use Rattle.crossing.proofs.pair.writing.set_multiple.Given as goal
 
 abbrev pub invariant-loop-k : goal.invariant-loop-k
 invariant-loop-k g l =

@@ -1,6 +1,6 @@
 use Rattle.std.proofs.Common.{arith}
 use Rattle.machines.proofs.Places.{before_set, weight_read}
-use Rattle.crossing.proofs.pairs.set_multiple.Goals as goal
+use Rattle.crossing.proofs.pair.writing.set_multiple.Goals as goal
 
 pub loop-k-preserved : goal.loop-k-preserved
 loop-k-preserved g c =
