@@ -12,7 +12,8 @@ struct Answers {
     rows: &'static [Row],
 }
 
-// An arc in plain numbers: its ends, its letter, where 0 is silent as in a file, its minutes, its grade and its parts.
+// An arc in plain numbers: its ends, its letter, where 0 is silent so that a case stays on a line, its minutes, its grade and
+// its parts.
 #[derive(Clone, Copy, PartialEq, Debug)]
 struct Plain(u8, u8, u8, u16, u8, u32);
 

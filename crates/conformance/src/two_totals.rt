@@ -88,7 +88,7 @@ impl Weight for TwoTotals {
         }
     }
 
-    // By `same` of the counts and not by `==`, so that the proof rests on what they promise.
+    // By `same` of the counts: with the derived `==` the proof does not close, and so it rests on what they promise.
     fn same(self, other: TwoTotals) -> bool {
         self.plain.same(other.plain) && self.marked.same(other.marked)
     }

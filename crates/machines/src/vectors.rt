@@ -1,5 +1,5 @@
 // What is done to a slice of weights.
-ghost use Rattle.std.specs.Prelude.{◌≡◌, ℕ, length};
+ghost use Rattle.std.specs.Prelude.{◌≡◌, ℕ, ◌+◌, ◌*◌, ◌≤◌, length, take, drop};
 ghost use Rattle.machines.specs.Tables.{weight_at, Joined};
 
 use weights::Weight;
@@ -25,4 +25,14 @@ pub(crate) fn fill_zero<K: Weight>(weights: &mut [K])
     for weight in weights.iter_mut() {
         *weight = K::ZERO;
     }
+}
+
+// The row of this number, in weights that lie in rows of so many.
+pub(crate) fn row_of<K>(weights: &[K], width: usize, number: usize) -> &[K]
+    requires { number * width + width ≤ length weights.now }
+    ensures value { result.now ≡ take width (drop (number * width) weights.now) }
+    ensures len { length result.now ≡ width }
+{
+    let begin = number * width;
+    &weights[begin..begin + width]
 }

@@ -61,6 +61,7 @@ impl Commutative for Possible {
 impl Ranked for Possible {
     ghost ranked_laws = { possible_ranked };
 
+    // As a derived `>=` would say; an order of `Possible` would be there for this one line.
     fn keep(self, other: Possible) -> bool {
         self.0 || !other.0
     }

@@ -22,6 +22,7 @@ impl<'a, 'b, K: Weight> Pair<'a, 'b, K> {
         requires { length table.old ≡ pair_size self.now.first.now self.now.second.now }
         ensures { Alike (pair_machine K.Weight.ops K.Weight.meaning self.now.first.now self.now.second.now table.new) (crossing_of K.Weight.ops K.Weight.meaning self.now) }
     {
+        // These cuts stand in clearing too: a public function for them would ask that the table is long enough.
         let states = self.states();
         let (starts, rest) = table.split_at_mut(states);
         let (ends, blocks) = rest.split_at_mut(states);
@@ -80,7 +81,7 @@ fn write_pairs<K: Weight>(first: &[K], second: &[K], pairs: &mut [K])
 }
 
 // Makes each weight of a row the factor chained with the other row's weight. `join_multiple` of `machines` joins it to what
-// stood there.
+// stood there; neither can be public, since both ask that the rows are of one length.
 fn set_multiple<K: Weight>(row: &mut [K], factor: K, other: &[K])
     requires { length row.old ≡ length other.now }
     ensures { Chained K.Weight.ops K.Weight.meaning (K.Weight.meaning factor) other.now row.new }

@@ -4,6 +4,7 @@ ghost use Rattle.machines.specs.Questions.{machine_answer};
 ghost use Rattle.machines.specs.Shapes.{Shaped, start_part, end_part, block_part, row_part};
 
 use super::{Machine, machine_size};
+use crate::vectors::row_of;
 use charts::Refusal;
 
 impl<'a, K> Machine<'a, K> {
@@ -63,7 +64,8 @@ impl<'a, K> Machine<'a, K> {
         if !(1..=self.letters).contains(&letter) {
             return &self.table[..0];
         }
-        // A function for where a block begins would ask of each caller that the letter is not 0.
+        // One line here and in `join_block`: a private function would be no shorter, and a public one, for crossing, would ask that
+        // the letter is not 0.
         let size = self.states * self.states;
         let begin = 2 * self.states + (usize::from(letter) - 1) * size;
         &self.table[begin..begin + size]
@@ -77,8 +79,6 @@ impl<'a, K> Machine<'a, K> {
         if !(1..=self.letters).contains(&letter) || state >= self.states {
             return &self.table[..0];
         }
-        let block = self.block(letter);
-        let begin = state * self.states;
-        &block[begin..begin + self.states]
+        row_of(self.block(letter), self.states, state)
     }
 }

@@ -5,7 +5,7 @@ ghost use Rattle.machines.specs.Shapes.{Square};
 ghost use Rattle.machines.specs.Tables.{weight_at};
 
 use super::Matrix;
-use crate::vectors::{fill_zero, join_multiple};
+use crate::vectors::{fill_zero, join_multiple, row_of};
 use weights::Weight;
 
 impl<'a, K> Matrix<'a, K> {
@@ -31,8 +31,7 @@ impl<'a, K> Matrix<'a, K> {
         ensures value { result.now ≡ row_of self.now state }
         ensures len { length result.now ≡ self.now.states }
     {
-        let begin = state * self.states;
-        &self.weights[begin..begin + self.states]
+        row_of(self.weights, self.states, state)
     }
 }
 
