@@ -1,5 +1,5 @@
 -- What a chart keeps: rows that fit, which is its invariant.
-use Rattle.std.specs.Prelude.{ℕ, Bool, true, ◌&&◌, List, [], ◌∷◌, map, length}
+use Rattle.std.specs.Prelude.{◌≡◌, ℕ, ◌≤◌, Bool, true, ◌&&◌, List, [], ◌∷◌, map, length, take}
 use Rattle.charts.specs.Views.{View, row_of, within_limits, state_row_fits, arc_row_fits}
 
 -- the view of a chart with these state rows, letters and arc rows of twelve bytes each
@@ -21,3 +21,9 @@ abbrev pub fits : View → Bool
 fits v =
     within_limits v.states v.letters (length v.arc_rows) && all state_row_fits v.state_rows
     && all (arc_row_fits v.states v.letters) v.arc_rows
+
+-- the first places of two tables, of 32 and of 512 places, hold the rows of a chart
+abbrev pub Held : (states letters arcs : ℕ) → List ℕ → List (List ℕ) → Type 0
+Held states letters arcs marks rows =
+    (states ≤ 32) × (length (take states marks) ≡ states) × (arcs ≤ 512) × (length (take arcs rows) ≡ arcs)
+    × (fits (view_of (take states marks) letters (take arcs rows)) ≡ true)

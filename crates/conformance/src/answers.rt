@@ -83,6 +83,15 @@ fn check_answers(rt: &impl Abort, answers: &Answers) {
     let counts = (chart.states(), chart.letters(), chart.arcs());
     assert_eq!(rt; counts, answers.counts, "{name}");
     check_rows(rt, &chart, answers.rows, name);
+    // The arcs one after another are those of the numbers, and there are no more.
+    for (number, arc) in chart.arcs_in_order().enumerate() {
+        assert_eq!(rt; chart.arc(number), Some(arc), "{name}: arc {number}");
+    }
+    assert_eq!(rt;
+        chart.arcs_in_order().count(),
+        chart.arcs(),
+        "{name}: arcs in order"
+    );
 }
 
 #[test]

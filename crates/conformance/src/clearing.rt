@@ -20,7 +20,7 @@ use weights::possible::Possible;
 #[derive(Drop)]
 struct Question<'a> {
     name: &'a str,
-    chart: &'a Chart<'a>,
+    chart: &'a Chart,
     log: &'a [u8],
 }
 
@@ -158,7 +158,7 @@ fn check_states<K: Named>(
 fn check_logs<'a, K: Named>(
     rt: &(impl Abort + AllocGlobal),
     name: &'a str,
-    chart: &'a Chart<'a>,
+    chart: &'a Chart,
     logs: &'a [&'a [u8]],
 ) -> Result<(), Fail> {
     for log in logs {

@@ -1,15 +1,17 @@
 -- The numbers of pairs: p * n + q for p below m and q below n.
-use Rattle.std.proofs.Common.{◌≡◌, ℕ, zero, suc, ◌+◌, ◌-◌, ◌*◌, ◌/◌, ◌%◌, ◌<◌, ◌≤◌, List, length, take, drop, sym, ap, ◌∙◌, ap₂, mul-zero, mul-le-mul_right, arith}
+use Rattle.std.proofs.Common.{◌≡◌, ℕ, zero, suc, ◌+◌, ◌-◌, ◌*◌, ◌/◌, ◌%◌, ◌<◌, ◌≤◌, cond, ◌&&◌, leb, List, [], length, take, drop, sym, ap, ◌∙◌, ap₂, mul-zero, mul-le-mul_right, arith}
 use native.Mathlib.Nat.{add-sub_cancel_left}
 use lib.Arith.{digits_div, digits_mod, digits_lt}
 use borrow.Rule.Slice.PartMut.{put_mid}
 use Rattle.std.proofs.lemmas.Nat.{div-add-mod', div_below, mod_below}
 use Rattle.weights.specs.Semiring.{Ops}
+use Rattle.machines.specs.Shapes.{machine_size, block_part}
 use Rattle.machines.specs.Tables.{weight_at, table_of, Entries}
 use Rattle.machines.specs.Arcs.{block_entry}
 use Rattle.machines.specs.Machine.{Machine, crossed}
 use Rattle.crossing.specs.Crossings.{Paired, pair_table}
 use Rattle.machines.proofs.Places.{Upto, RowIs, upto_more, row_fits, block_fits, length_part, weight_part}
+use Rattle.machines.proofs.Parts.{block_answered, row_room}
 use Rattle.machines.proofs.Added.{block_put_in, block_put_out}
 
 -- where there is a pair there is a second
@@ -94,3 +96,20 @@ paired_parts o meaning {m} {n} {s} {t} {first} {second} pairs es et long wide pa
 -- the row of a pair ends within its block; k and d are the second's states and the number of pairs as the code has them
 pub pair_row_fits : (m n : ℕ) {k d p q room : ℕ} → k ≡ n → d ≡ m * n → room ≡ m * n * (m * n) → p < m → q < n → (p * k + q) * d + d ≤ room
 pair_row_fits m n ek ed e h l = rw (ek, ed) (row_fits (m * n) {m = m * n} e (digits_lt h l))
+
+-- what the code cuts out of a machine's block as the row of state i; k is the number of states as the code has it
+pub record RowCut {K : Type 0} (d a i k : ℕ) (table block : List K) : Type 0 where
+  pub fits : i * k + k ≤ length block
+  pub value : take (i * k + k - i * k) (drop (i * k) block) ≡ take d (drop (i * d) (block_part d a table))
+  pub long : length (take (i * k + k - i * k) (drop (i * k) block)) ≡ d
+
+pub row_cut : {K : Type 0} (d l a i : ℕ) {k : ℕ} (table block : List K) → k ≡ d → 1 ≤ a → a ≤ l → i < d → machine_size d l ≤ length table →
+    block ≡ cond (leb 1 a && leb a l) (block_part d a table) [] → RowCut d a i k table block
+row_cut d l a i table block ek some within below room is =
+    let fits = row_room d l a i table block some within below room is in
+    rw ek
+    (record {
+      fits = fits;
+      value = ap₂ (λ n b. take n (drop (i * d) b)) (add-sub_cancel_left (i * d) d) (block_answered d l a table block some within is);
+      long = length_part (i * d) d block fits;
+    })

@@ -5,17 +5,17 @@ use Rattle.machines.specs.Shapes.{machine_size, block_part, row_part}
 use Rattle.machines.proofs.Places.{block_fits, row_fits}
 
 -- what a machine answers as the block of a letter that it has
-block_answered : {K : Type 0} (d l c : ℕ) (table block : List K) → 1 ≤ c → c ≤ l → block ≡ cond (leb 1 c && leb c l) (block_part d c table) [] →
+pub block_answered : {K : Type 0} (d l c : ℕ) (table block : List K) → 1 ≤ c → c ≤ l → block ≡ cond (leb 1 c && leb c l) (block_part d c table) [] →
     block ≡ block_part d c table
 block_answered d l c table block b u e = e ∙ cond-true _ _ _ (and_from _ _ (le-leb 1 c b) (le-leb c l u))
 
 -- its length
-block_long : {K : Type 0} (d l c : ℕ) (table : List K) → 1 ≤ c → c ≤ l → machine_size d l ≤ length table → length (block_part d c table) ≡ d * d
+pub block_long : {K : Type 0} (d l c : ℕ) (table : List K) → 1 ≤ c → c ≤ l → machine_size d l ≤ length table → length (block_part d c table) ≡ d * d
 block_long d l c table b u room =
     let fits = block_fits (d * d) l c b u in
     length-take-le (d * d) (drop (2 * d + (c - 1) * (d * d)) table) (rw (length-drop (2 * d + (c - 1) * (d * d)) table) (omega arith))
 
--- and so of a row, with its length
+-- and so of a row, with its length, for whoever asks a machine for one
 pub row_answered : {K : Type 0} (d l c i : ℕ) (table row : List K) → 1 ≤ c → c ≤ l → i < d → machine_size d l ≤ length table →
     row ≡ cond (leb 1 c && leb c l && ltb i d) (row_part d c i table) [] → (row ≡ row_part d c i table) × (length row ≡ d)
 row_answered d l c i table row b u h room e =

@@ -126,13 +126,13 @@ module _ {K W : Type 0} (o : Ops W) (meaning : K → W) where
         rw front at second ∙ weight_first ys (drop n (drop a ws)) p (omega arith)
 
     -- it changes nothing before the part
-    weight_put_before : (p : ℕ) → p < a → weight_at o meaning (put_mid a n ws ys) p ≡ weight_at o meaning ws p
+    pub weight_put_before : (p : ℕ) → p < a → weight_at o meaning (put_mid a n ws ys) p ≡ weight_at o meaning ws p
     weight_put_before p h =
         let front = length-take-le a ws begins in
         weight_first (take a ws) (ys ++ drop n (drop a ws)) p (omega arith) ∙ weight_take a ws p h
 
     -- nor behind it
-    weight_put_behind : (p : ℕ) → a + n ≤ p → weight_at o meaning (put_mid a n ws ys) p ≡ weight_at o meaning ws p
+    pub weight_put_behind : (p : ℕ) → a + n ≤ p → weight_at o meaning (put_mid a n ws ys) p ≡ weight_at o meaning ws p
     weight_put_behind p h =
         let front = length-take-le a ws begins in
         let r = p - (a + n) in

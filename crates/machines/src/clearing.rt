@@ -5,6 +5,7 @@ mod silent;
 
 ghost use Rattle.std.specs.Prelude.{◌≡◌, ◌*◌, true, length, is_ok};
 ghost use Rattle.charts.specs.Automaton.{automaton};
+ghost use Rattle.charts.specs.Held.{fits};
 ghost use Rattle.machines.specs.Machine.{Alike, cleared};
 ghost use Rattle.machines.specs.Meant.{machine_of, Cleared};
 ghost use Rattle.machines.specs.Questions.{clearing_answer, KeptBehind};
@@ -19,7 +20,7 @@ use silent::write_silent;
 use weights::Weight;
 
 // Writes the machine of a chart, without its silent arcs, to the front of `table`. `silent` and `scratch` are tables of
-// states times states, whose fronts may change.
+// states times states, whose fronts may change. Like each answer of a chart it promises what holds of every chart.
 pub fn clear<K: Weight>(
     chart: &Chart,
     silent: &mut [K],
@@ -31,6 +32,8 @@ pub fn clear<K: Weight>(
     ensures silent_kept { KeptBehind (is_ok result) (chart.now.states * chart.now.states) silent.old silent.new }
     ensures scratch_kept { KeptBehind (is_ok result) (chart.now.states * chart.now.states) scratch.old scratch.new }
     ensures table_kept { KeptBehind (is_ok result) (machine_size chart.now.states chart.now.letters) table.old table.new }
+    ensures rows { length chart.now.state_rows ≡ chart.now.states }
+    ensures fits { fits chart.now ≡ true }
 {
     let states = chart.states();
     let places = states * states;
@@ -54,6 +57,7 @@ fn clear_into<K: Weight>(chart: &Chart, silent: &mut [K], kept: &mut [K], table:
     requires fits { length table.old ≡ machine_size chart.now.states chart.now.letters }
     ensures { Alike (machine_of K.Weight.ops K.Weight.meaning chart.now.states chart.now.letters table.new) (cleared K.Weight.ops (automaton K.Weight.weighs chart.now)) }
 {
+    // These cuts stand in crossing too: a public function for them would ask that the table is long enough.
     let states = chart.states();
     let (starts, rest) = table.split_at_mut(states);
     let (ends, blocks) = rest.split_at_mut(states);

@@ -5,6 +5,7 @@ ghost use Rattle.machines.specs.Tables.{weight_at, Joined};
 use weights::Weight;
 
 // Joins into each weight of a row the factor chained with the other row's weight. A factor of zero changes nothing.
+// `set_multiple` of crossing joins to nothing; neither can be public, since both ask that the rows are of one length.
 pub(crate) fn join_multiple<K: Weight>(row: &mut [K], factor: K, other: &[K])
     requires { length row.old ≡ length other.now }
     ensures { Joined K.Weight.ops K.Weight.meaning row.old (K.Weight.meaning factor) other.now row.new }

@@ -1,6 +1,7 @@
 // A chart as the table that a fitter holds beside a path.
-ghost use Rattle.std.specs.Prelude.{◌≡◌, ℕ, ◌≤◌, List, ◌++◌, Some, length, IfOk, string_bytes};
+ghost use Rattle.std.specs.Prelude.{◌≡◌, ℕ, ◌≤◌, List, ◌++◌, Some, true, length, IfOk, string_bytes};
 ghost use Rattle.std.specs.Fmt.{WritesOnOk};
+ghost use Rattle.charts.specs.Held.{fits};
 ghost use Rattle.reports.specs.Texts.{state_line, arc_line, lines, table, report};
 
 use crate::lines::refusal_line;
@@ -13,7 +14,7 @@ pub const ENOUGH: u64 = 8193;
 
 // A chart that is printed as its table.
 #[derive(Clone, Copy)]
-struct Printed<'a>(&'a Chart<'a>);
+struct Printed<'a>(&'a Chart);
 
 impl fmt::Display for Printed<'_> {
     ghost output = { λ p. Some (table p.0.now) };
@@ -61,8 +62,12 @@ fn write_arcs<W: fmt::Write>(f: &mut fmt::Formatter<W>, chart: &Chart) -> fmt::R
 
 // The table of a chart.
 pub fn chart_table(alloc: Global, chart: &Chart) -> Result<String, AllocError>
-    ensures { IfOk result (λ s. string_bytes s ≡ table chart.now) }
+    ensures text { IfOk result (λ s. string_bytes s ≡ table chart.now) }
+    ensures rows { length chart.now.state_rows ≡ chart.now.states }
+    ensures fits { fits chart.now ≡ true }
 {
+    // Asked for what it promises of the chart, so that a caller knows how long the text can be.
+    let _ = chart.states();
     Printed(chart).to_string(alloc)
 }
 

@@ -1,5 +1,7 @@
-// The number of letters and the two tables of a chart's file, as lent, and the questions that their rows answer.
+// The number of letters and the two tables of a chart, lent by its file or by the chart that keeps them, and the questions that
+// their rows answer.
 mod find;
+mod keep;
 mod rows;
 
 ghost use Rattle.std.specs.Prelude.{◌≤◌, length};

@@ -14,7 +14,7 @@ returns g c =
     let d = first.states * second.states in
     let s = c.states.result * c.states-2.result in
     let states : s ≡ d = ap₂ ◌*◌ c.states.ensures.value c.states-2.ensures.value in
-    let letters = c.from.ensures ∙ c.letters-3.ensures in
+    let letters = c.from.ensures ∙ c.letters-3.ensures.value in
     let size : 2 * s + c.from.result * (s * s) ≡ machine_size d first.letters = ap₂ ◌+◌ (ap (◌*◌ 2) states) (ap₂ ◌*◌ letters (ap₂ ◌*◌ states states)) in
     let written = c.write.new.table in
     let whole : length written ≡ 2 * s + c.from.result * (s * s) = search rules in
@@ -23,4 +23,6 @@ returns g c =
       answers = grind (arith, nat_tests);
       crosses = λ _. alike_trans refl (front_alike o meaning d first.letters written rest (whole ∙ size)) c.write.ensures;
       table_kept = drop-append-drop (2 * s + c.from.result * (s * s)) c.args.table.now written (machine_size d first.letters) (omega arith) whole;
+      first_shaped = c.states.ensures.shaped;
+      second_shaped = c.states-2.ensures.shaped;
     }

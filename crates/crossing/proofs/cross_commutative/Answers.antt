@@ -19,4 +19,6 @@ returns g c =
       crosses = c.cross.ensures.crosses;
       multiplies = λ ok w h. told_cong plain z (crossed o x y) (c.cross.ensures.crosses ok) w h ∙ told_crossed plain g.met.K.Commutative.times_commutes x y w;
       table_kept = c.cross.ensures.table_kept;
+      first_shaped = c.cross.ensures.first_shaped;
+      second_shaped = c.cross.ensures.second_shaped;
     }

@@ -54,12 +54,15 @@ impl<'a, 'b, K: Weight> Pair<'a, 'b, K> {
     {
         let (rows, columns) = (self.first.states(), self.second.states());
         let states = self.states();
+        // The two blocks are asked for once, since `Machine::row` looks for its block at each call.
+        let first = self.first.block(letter);
+        let second = self.second.block(letter);
         // By number: after `chunks_exact_mut` nothing is known of what was written, and `chunks_exact` for the rows that are
-        // read left each bound open.
+        // read left each bound open. `row_of` of `machines` can't be public, since it asks that the row lies in the block.
         for p in 0..rows {
-            let first_row = self.first.row(letter, p);
+            let first_row = &first[p * rows..p * rows + rows];
             for q in 0..columns {
-                let second_row = self.second.row(letter, q);
+                let second_row = &second[q * columns..q * columns + columns];
                 let begin = (p * columns + q) * states;
                 write_pairs(first_row, second_row, &mut block[begin..begin + states]);
             }

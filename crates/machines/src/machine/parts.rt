@@ -1,5 +1,6 @@
-// Making a machine on a table, and the parts that it has.
-ghost use Rattle.std.specs.Prelude.{◌≡◌, ◌&&◌, [], length, if◌then◌else◌, nat_le, nat_lt};
+// Making a machine on a table, and the parts that it has. Each also promises what holds of every machine (`shaped`), so that
+// whoever asks for one may rest on that.
+ghost use Rattle.std.specs.Prelude.{◌≡◌, ◌&&◌, [], length, IfOk, if◌then◌else◌, nat_le, nat_lt};
 ghost use Rattle.machines.specs.Questions.{machine_answer};
 ghost use Rattle.machines.specs.Shapes.{Shaped, start_part, end_part, block_part, row_part};
 
@@ -10,7 +11,8 @@ use charts::Refusal;
 impl<'a, K> Machine<'a, K> {
     // The machine of so many states and letters whose weights lie at the front of a table.
     pub fn new(states: usize, letters: u8, table: &'a [K]) -> Result<Machine<'a, K>, Refusal>
-        ensures { result ≡ machine_answer states letters table.now }
+        ensures answers { result ≡ machine_answer states letters table.now }
+        ensures shaped { IfOk result (λ m. Shaped m.states m.letters m.table) }
     {
         if !(1..=64).contains(&states) || !(1..=15).contains(&letters) {
             return Err(Refusal::Limits);
@@ -35,7 +37,8 @@ impl<'a, K> Machine<'a, K> {
 
     // How many letters the machine has; they are numbered from 1.
     pub fn letters(&self) -> u8
-        ensures { result ≡ self.now.letters }
+        ensures value { result ≡ self.now.letters }
+        ensures shaped { Shaped self.now.states self.now.letters self.now.table }
     {
         self.letters
     }
@@ -44,6 +47,7 @@ impl<'a, K> Machine<'a, K> {
     pub fn starts(&self) -> &[K]
         ensures value { result.now ≡ start_part self.now.states self.now.table }
         ensures len { length result.now ≡ self.now.states }
+        ensures shaped { Shaped self.now.states self.now.letters self.now.table }
     {
         &self.table[..self.states]
     }
@@ -52,6 +56,7 @@ impl<'a, K> Machine<'a, K> {
     pub fn ends(&self) -> &[K]
         ensures value { result.now ≡ end_part self.now.states self.now.table }
         ensures len { length result.now ≡ self.now.states }
+        ensures shaped { Shaped self.now.states self.now.letters self.now.table }
     {
         &self.table[self.states..2 * self.states]
     }
@@ -59,7 +64,8 @@ impl<'a, K> Machine<'a, K> {
     // The block of a letter, row by row; it is empty where the machine has no such letter. An empty slice and not `None`, so
     // that a call fails nowhere and a caller that goes over it needs no other arm.
     pub fn block(&self, letter: u8) -> &[K]
-        ensures { result.now ≡ (if nat_le 1 letter && nat_le letter self.now.letters then block_part self.now.states letter self.now.table else []) }
+        ensures value { result.now ≡ (if nat_le 1 letter && nat_le letter self.now.letters then block_part self.now.states letter self.now.table else []) }
+        ensures shaped { Shaped self.now.states self.now.letters self.now.table }
     {
         if !(1..=self.letters).contains(&letter) {
             return &self.table[..0];
@@ -74,7 +80,8 @@ impl<'a, K> Machine<'a, K> {
     // The row of a state in the block of a letter; it is empty where the machine has no such letter or no such state. An empty
     // slice and not `None`, as in `block`.
     pub fn row(&self, letter: u8, state: usize) -> &[K]
-        ensures { result.now ≡ (if nat_le 1 letter && nat_le letter self.now.letters && nat_lt state self.now.states then row_part self.now.states letter state self.now.table else []) }
+        ensures value { result.now ≡ (if nat_le 1 letter && nat_le letter self.now.letters && nat_lt state self.now.states then row_part self.now.states letter state self.now.table else []) }
+        ensures shaped { Shaped self.now.states self.now.letters self.now.table }
     {
         if !(1..=self.letters).contains(&letter) || state >= self.states {
             return &self.table[..0];

@@ -9,4 +9,4 @@ row_of-requires g c =
     let some : 1 ≤ c.args.letter = search rules in
     let within : c.args.letter ≤ m.letters = search rules in
     row_room m.states m.letters c.args.letter c.args.state m.table.now c.block.result.now some within (omega arith) (omega arith)
-    (rw (← c.self.view_is) at c.block.ensures)
+    (rw (← c.self.view_is) at c.block.ensures.value)
