@@ -6,5 +6,5 @@ pub mod reading;
 pub mod refusals;
 
 pub use arcs::{Arc, Arcs};
-pub use reading::Chart;
+pub use reading::{Chart, LentChart};
 pub use refusals::Refusal;

@@ -1,6 +1,7 @@
 // A chart, which comes only from reading.
 mod answers;
 mod header;
+mod lent;
 mod tables;
 
 ghost use Rattle.std.specs.Prelude.{◌≡◌, take, true, length, IfOk};
@@ -9,6 +10,7 @@ ghost use Rattle.charts.specs.Held.{Held, view_of, fits};
 ghost use Rattle.charts.specs.Views.{View};
 
 use crate::refusals::Refusal;
+pub use lent::LentChart;
 use std::marker::Model;
 pub(crate) use tables::Tables;
 
@@ -32,15 +34,12 @@ impl Model for Chart {
 }
 
 impl Chart {
-    // The chart that a file holds, or why it holds none. Every question is asked in its order, and the first that fails decides.
+    // The chart that a file holds, or why it holds none: what `LentChart::read` answers, with rows of its own.
     pub fn read(file: &[u8]) -> Result<Chart, Refusal>
         ensures answers { result ≡ decoded file.now }
         ensures rows { IfOk result (λ c. length c.state_rows ≡ c.states) }
         ensures fits { IfOk result (λ c. fits c ≡ true) }
     {
-        let tables = Tables::find(file)?;
-        tables.check_states()?;
-        tables.check_arcs()?;
-        Ok(tables.keep())
+        Ok(LentChart::read(file)?.keep())
     }
 }

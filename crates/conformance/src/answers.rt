@@ -1,6 +1,6 @@
 // What a chart answers, for numbers that it has and for numbers that it has not.
 use crate::files::{EDGES, SAMPLE};
-use charts::{Arc, Chart};
+use charts::{Arc, Chart, LentChart};
 use std::num::NonZeroU8;
 use std::process::Abort;
 
@@ -92,6 +92,13 @@ fn check_answers(rt: &impl Abort, answers: &Answers) {
         chart.arcs(),
         "{name}: arcs in order"
     );
+    // The same chart as its file lends it.
+    let lent = LentChart::read(answers.file).expect(rt, name);
+    assert!(rt;
+        lent.arcs_in_order().eq(chart.arcs_in_order()),
+        "{name}: lent arcs"
+    );
+    check_rows(rt, &lent.keep(), answers.rows, name);
 }
 
 #[test]

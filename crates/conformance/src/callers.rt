@@ -1,8 +1,10 @@
-// What a caller can rest on of a chart or a machine that it is given: each of these functions is proved by the contracts alone.
+// What a caller can rest on of a chart or a machine: each of these functions is proved by the contracts alone.
 ghost use Rattle.std.specs.Prelude.{◌≡◌, false};
+ghost use Rattle.std.specs.Result.{result_map_both};
+ghost use Rattle.charts.specs.Format.{decoded};
 
 use crate::files::SAMPLE;
-use charts::{Chart, Refusal};
+use charts::{Arcs, Chart, LentChart, Refusal};
 use machines::Machine;
 use std::test::Fail;
 use weights::count::Count;
@@ -11,6 +13,13 @@ use weights::count::Count;
 fn read_own_bytes() -> Result<Chart, Refusal> {
     let file = [0, 1, 0, 1, 0, 0, 0, 12, 0, 12, 0, 13, 3];
     Chart::read(&file)
+}
+
+// The arcs of a file outlive the chart that was read from it.
+fn arcs_of<'a>(file: &'a [u8]) -> Result<Arcs<'a>, Refusal>
+    ensures { result ≡ result_map_both (λ c. c.arc_rows) (λ e. e) (decoded file.now) }
+{
+    Ok(LentChart::read(file)?.arcs_in_order())
 }
 
 // The state past the last is no start, and no end.
@@ -44,6 +53,8 @@ fn callers_rest_on_contracts(rt: HostRuntime) -> Result<(), Fail> {
     assert!(rt; chart.is_start(0) && chart.is_end(0));
     assert!(rt; !is_marked_past_the_last(&chart));
     let chart = Chart::read(SAMPLE)?;
+    assert_eq!(rt; arcs_of(SAMPLE)?.count(), 5);
+    assert_eq!(rt; arcs_of(&SAMPLE[1..]).err(), Some(Refusal::Total));
     assert!(rt; marked_where_it_leads(&chart, 0, &[true; 32]));
     assert!(rt; !marked_where_it_leads(&chart, 5, &[true; 32]));
     let table = [Count(7), Count(8), Count(9)];

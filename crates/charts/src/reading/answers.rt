@@ -95,7 +95,7 @@ impl Chart {
         tables.read_arc(row)
     }
 
-    // The arcs, from that of number 0 on.
+    // The arcs, from that of number 0 on. They lie in this chart; those of a `LentChart` outlive it.
     pub fn arcs_in_order(&self) -> Arcs<'_>
         ensures value { result ≡ self.now.arc_rows }
         ensures rows { length self.now.state_rows ≡ self.now.states }
